@@ -1,0 +1,95 @@
+// Little-endian words in lent bytes, total: a byte past the end reads as 0 and is not written.
+// So every function above is total too, whatever bytes it meets.
+ghost use mathlib.Core.Path.{_≡_};
+ghost use Prim.Native.Nat.{_<_};
+ghost use lib.ListN.{getD, set};
+ghost use Rattle.words.specs.Words.{wordAt, putAt};
+
+// The byte at `at`, and 0 past the end.
+pub fn byte(s: &[u8], at: usize) -> u8
+    ensures { λ r. ⌜ r ≡ getD (now (s .entry)) at 0 ⌝ }
+{
+    if at < s.len() { s[at] } else { 0 }
+}
+
+// Stores a byte, unless `at` is past the end.
+pub fn put_byte(s: &mut [u8], at: usize, v: u8)
+    ensures { λ _. ⌜ now (s .exit) ≡ set (now (s .entry)) at v ⌝ }
+{
+    if at < s.len() {
+        s[at] = v;
+    }
+}
+
+// The word of 4 bytes at `at`. Behind one test the four reads compile to one load.
+pub fn get32(s: &[u8], at: usize) -> u32
+    ensures { λ r. ⌜ r ≡ wordAt 4 (now (s .entry)) at ⌝ }
+{
+    let n = s.len();
+    if n <= at {
+        return 0;
+    }
+    let a1 = at + 1;
+    let a2 = a1 + 1;
+    let a3 = a2 + 1;
+    if n - at < 4 {
+        return byte(s, at) as u32
+            + 256 * (byte(s, a1) as u32 + 256 * (byte(s, a2) as u32 + 256 * (byte(s, a3) as u32)));
+    }
+    wide(s[at]) + 256 * (wide(s[a1]) + 256 * (wide(s[a2]) + 256 * wide(s[a3])))
+}
+
+// A byte as a word; a cast in a function of its own asks no proof at each read.
+fn wide(b: u8) -> u32
+    ensures { λ r. ⌜ (r ≡ b) × (r < 256) ⌝ }
+{
+    b as u32
+}
+
+// Stores the word of 4 bytes at `at`; behind one test the four stores compile to one.
+pub fn put32(s: &mut [u8], at: usize, v: u32)
+    ensures { λ _. ⌜ now (s .exit) ≡ putAt 4 (now (s .entry)) at v ⌝ }
+{
+    let n = s.len();
+    if n <= at {
+        return;
+    }
+    let a1 = at + 1;
+    let a2 = a1 + 1;
+    let a3 = a2 + 1;
+    let v1 = v / 256;
+    let v2 = v1 / 256;
+    let v3 = v2 / 256;
+    if n - at < 4 {
+        put_byte(s, at, (v % 256) as u8);
+        put_byte(s, a1, (v1 % 256) as u8);
+        put_byte(s, a2, (v2 % 256) as u8);
+        put_byte(s, a3, (v3 % 256) as u8);
+        return;
+    }
+    s[at] = (v % 256) as u8;
+    s[a1] = (v1 % 256) as u8;
+    s[a2] = (v2 % 256) as u8;
+    s[a3] = (v3 % 256) as u8;
+}
+
+// The word of 8 bytes at `at`.
+pub fn get64(s: &[u8], at: usize) -> u64
+    ensures { λ r. ⌜ r ≡ wordAt 8 (now (s .entry)) at ⌝ }
+{
+    if s.len() <= at {
+        return 0;
+    }
+    get32(s, at) as u64 + 4294967296 * (get32(s, at + 4) as u64)
+}
+
+// Stores the word of 8 bytes at `at`.
+pub fn put64(s: &mut [u8], at: usize, v: u64)
+    ensures { λ _. ⌜ now (s .exit) ≡ putAt 8 (now (s .entry)) at v ⌝ }
+{
+    if s.len() <= at {
+        return;
+    }
+    put32(s, at, (v % 4294967296) as u32);
+    put32(s, at + 4, (v / 4294967296) as u32);
+}
