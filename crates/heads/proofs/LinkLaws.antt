@@ -12,7 +12,8 @@ use mir.Syntax.{w32}
 use mir.Val.{toZ, ofZ, Fits, SFits}
 use mir.ValLaws.{toZ-ofZ, toZ-pos}
 use Rattle.words.specs.Choice.{if=-yes, if=-no, by=}
-use Rattle.heads.specs.Links.{distanceWord, linkWord, followed}
+use Rattle.heads.specs.Links.{linkWord, followed}
+use Rattle.words.specs.Sums.{minus}
 
 -- the bits of a number below zero, and not below
 pub neg-bits : (d : ℤ) → SFits w32 d → ltZ (toZ w32 (ofZ w32 d)) (pos 0) ≡ true → 2147483648 ≤ ofZ w32 d
@@ -42,7 +43,7 @@ neg-fits (pos zero) f n = record { sfits = omega arith }
 neg-fits (pos (suc k)) f n = record { sfits = omega (arith, f .sfits) }
 neg-fits (negsuc k) f n = record { sfits = omega (arith, f .sfits) }
 
-pub neg-word : (d : ℤ) → SFits w32 d → ofZ w32 (negℤ d) ≡ (4294967296 - ofZ w32 d) % 4294967296
+pub neg-word : (d : ℤ) → SFits w32 d → ofZ w32 (negℤ d) ≡ minus 0 (ofZ w32 d)
 neg-word (pos zero) f = omega arith
 neg-word (pos (suc k)) f = omega (arith, f .sfits)
 neg-word (negsuc k) f = omega (arith, f .sfits)
@@ -52,6 +53,6 @@ pub follow-link : (from to : ℕ) → from < 4294967296 → to < 4294967296 → 
 unfolding linkWord followed
 follow-link from to h k n =
     by= to 0
-    (λ e. ap (λ (w : ℕ). followed from w) (if=-yes to 0 0 (distanceWord from to) e) ∙ if=-yes 0 0 _ _ refl ∙ sym e)
-    (λ m. ap (λ (w : ℕ). followed from w) (if=-no to 0 0 (distanceWord from to) m)
-    ∙ if=-no (distanceWord from to) 0 _ _ (omega arith) ∙ omega arith)
+    (λ e. ap (λ (w : ℕ). followed from w) (if=-yes to 0 0 (minus to from) e) ∙ if=-yes 0 0 _ _ refl ∙ sym e)
+    (λ m. ap (λ (w : ℕ). followed from w) (if=-no to 0 0 (minus to from) m)
+    ∙ if=-no (minus to from) 0 _ _ (omega arith) ∙ omega arith)

@@ -1,9 +1,9 @@
 // Links: a signed distance of 32 bits, read from a word, added to a block's start, negated for the link back.
 ghost use mathlib.Core.Path.{_≡_};
-ghost use Prim.Native.Nat.{_+_, _-_, _%_};
 ghost use mir.Syntax.{w32};
 ghost use mir.Val.{toZ, ofZ};
-ghost use Rattle.heads.specs.Links.{distanceWord, linkWord, followed};
+ghost use Rattle.heads.specs.Links.{linkWord, followed};
+ghost use Rattle.words.specs.Sums.{plus, minus};
 
 // The signed distance that a word holds, in two's complement.
 fn distance(word: u32) -> i32
@@ -25,14 +25,14 @@ fn word_of(d: i32) -> u32
 
 // The distance from one start to another.
 fn between(from: u32, to: u32) -> i32
-    ensures { λ r. ⌜ r ≡ toZ w32 (distanceWord from to) ⌝ }
+    ensures { λ r. ⌜ r ≡ toZ w32 (minus to from) ⌝ }
 {
-    distance(std::num::wrapping_sub_u32(to, from))
+    distance(words::minus(to, from))
 }
 
 // The distance back. The least number of 32 bits has no opposite and stays.
 fn back(d: i32) -> i32
-    ensures { λ r. ⌜ ofZ w32 r ≡ (4294967296 - ofZ w32 d) % 4294967296 ⌝ }
+    ensures { λ r. ⌜ ofZ w32 r ≡ minus 0 (ofZ w32 d) ⌝ }
 {
     if d == -2147483648 {
         return d;
@@ -42,9 +42,9 @@ fn back(d: i32) -> i32
 
 // A start moved by a distance, in the arithmetic of 32 bits.
 fn moved(at: u32, d: i32) -> u32
-    ensures { λ r. ⌜ r ≡ (at + ofZ w32 d) % 4294967296 ⌝ }
+    ensures { λ r. ⌜ r ≡ plus at (ofZ w32 d) ⌝ }
 {
-    std::num::wrapping_add_u32(at, word_of(d))
+    words::plus(at, word_of(d))
 }
 
 // The link word from a block to another; 0 where there is none.
@@ -74,7 +74,7 @@ pub struct Pair {
 }
 
 pub fn both_ways(from: u32, to: u32) -> Pair
-    ensures { λ r. ⌜ (r .there ≡ distanceWord from to) × (r .home ≡ distanceWord to from) ⌝ }
+    ensures { λ r. ⌜ (r .there ≡ minus to from) × (r .home ≡ minus from to) ⌝ }
 {
     let d = between(from, to);
     Pair {

@@ -1,4 +1,4 @@
--- A choice by a test of two numbers, and what it gives. The choice stays shut, so that the four laws speak and nothing computes.
+-- A choice by a test of two numbers or by a flag, and what it gives. The choice stays shut, so that the four laws speak and nothing computes.
 use mathlib.Core.Path.{_≡_, refl, ap, subst}
 use mathlib.Core.Logic.{_≢_, _⊎_, inl, inr}
 use mathlib.Core.Bool.{Bool, true, false}
@@ -15,6 +15,10 @@ module _ {ℓ} {A : Type ℓ} where
 
   unfoldable pub if= : ℕ → ℕ → A → A → A
   if= a b x y = elim (eqb a b) [ true ↦ x | false ↦ y ]
+
+  unfoldable pub when : Bool → A → A → A
+  when true x y = x
+  when false x y = y
 
 -- ---- its laws
 
@@ -43,6 +47,14 @@ module _ {ℓ} {A : Type ℓ} where
   pub if=-no : (a b : ℕ) (x y : A) → a ≢ b → if= a b x y ≡ y
   unfolding if=
   if=-no a b x y h = ap (λ (c : Bool). elim c [ true ↦ x | false ↦ y ]) (T-false (eqb a b) (λ t. h (eqb→eq a b t)))
+
+  pub when-yes : (c : Bool) (x y : A) → c ≡ true → when c x y ≡ x
+  unfolding when
+  when-yes c x y h = rw h
+
+  pub when-no : (c : Bool) (x y : A) → c ≡ false → when c x y ≡ y
+  unfolding when
+  when-no c x y h = rw h
 
 pub ruleset ifs = (if=-yes, if=-no, if<-yes, if<-no)
 

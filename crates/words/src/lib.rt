@@ -1,8 +1,9 @@
 // Little-endian words in lent bytes, total: a byte past the end reads as 0 and is not written.
 // So every function above is total too, whatever bytes it meets.
 ghost use mathlib.Core.Path.{_≡_};
-ghost use Prim.Native.Nat.{_<_};
+ghost use Prim.Native.Nat.{_+_, _<_};
 ghost use lib.ListN.{getD, set};
+ghost use Rattle.words.specs.Sums.{plus as plus-of, minus as minus-of};
 ghost use Rattle.words.specs.Words.{wordAt, putAt};
 
 // The byte at `at`, and 0 past the end.
@@ -92,4 +93,32 @@ pub fn put64(s: &mut [u8], at: usize, v: u64)
     }
     put32(s, at, (v % 4294967296) as u32);
     put32(s, at + 4, (v / 4294967296) as u32);
+}
+
+// The word `offset` bytes past the position `at`.
+pub fn field(s: &[u8], at: u32, offset: u32) -> u32
+    ensures { λ r. ⌜ r ≡ wordAt 4 (now (s .entry)) (at + offset) ⌝ }
+{
+    get32(s, at as usize + offset as usize)
+}
+
+// Stores the word `offset` bytes past the position `at`.
+pub fn put_field(s: &mut [u8], at: u32, offset: u32, v: u32)
+    ensures { λ _. ⌜ now (s .exit) ≡ putAt 4 (now (s .entry)) (at + offset) v ⌝ }
+{
+    put32(s, at as usize + offset as usize, v);
+}
+
+// The sum of 32 bits.
+pub fn plus(a: u32, b: u32) -> u32
+    ensures { λ r. ⌜ r ≡ plus-of a b ⌝ }
+{
+    std::num::wrapping_add_u32(a, b)
+}
+
+// The difference of 32 bits.
+pub fn minus(a: u32, b: u32) -> u32
+    ensures { λ r. ⌜ r ≡ minus-of a b ⌝ }
+{
+    std::num::wrapping_sub_u32(a, b)
 }

@@ -1,5 +1,5 @@
 -- heads::between meets its contract: a difference of 32 bits is the word of the distance.
-use Rattle.heads.specs.Links.{distanceWord}
+use Rattle.words.specs.Sums.{minus}
 use borrow.Author.Needs.{needs}
 use mathlib.Core.Path.{ap, _∙_, _≡_}
 use mir.Syntax.{w32}
@@ -15,4 +15,4 @@ between-spec =
     (tie.spec
     (λ c κs. search needs)
     (λ c κs. search needs)
-    (λ c. let w : c .before .wrapping-sub-u32 .result ≡ distanceWord (c .before .before .args .from) (c .before .before .args .to) = omega arith in toZ-ofZ w32 (c .distance .result) (record { sfits = c .distance .ok }) ∙ c .distance .ensures ∙ ap (toZ w32) w))
+    (λ c. let w : c .before .minus .result ≡ minus (c .before .before .args .to) (c .before .before .args .from) = omega arith in toZ-ofZ w32 (c .distance .result) (record { sfits = c .distance .ok }) ∙ c .distance .ensures ∙ ap (toZ w32) w))

@@ -14,4 +14,4 @@ moved-spec =
     (tie.spec
     (λ c κs. search needs)
     (λ c κs. search needs)
-    (λ c. c .wrapping-add-u32 .ensures ∙ ap (λ (w : ℕ). (c .before .before .args .at + w) % 4294967296) (c .before .word-of .ensures ∙ ap (ofZ w32) (toZ-ofZ w32 (c .before .before .args .d) (c .before .before .fits .d)))))
+    (λ c. c .plus .ensures ∙ ap (λ (w : ℕ). (c .before .before .args .at + w) % 4294967296) (c .before .word-of .ensures ∙ ap (ofZ w32) (toZ-ofZ w32 (c .before .before .args .d) (c .before .before .fits .d)))))

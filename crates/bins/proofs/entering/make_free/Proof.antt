@@ -1,0 +1,22 @@
+-- bins::make_free meets its contract, by its text.
+use Rattle.bins.specs.Enter.{makeFree}
+use borrow.Author.Needs.{needs}
+use Rattle.bins.proofs.entering.make_free.Statement.{statement}
+use Rattle.bins.proofs.entering.make_free.Tie as tie
+
+returns : tie.Need-returns
+unfolding makeFree
+returns c = cc
+
+pub make-free-spec : {M : Type 1} → statement M
+make-free-spec =
+    tie.close
+    (tie.spec
+    (λ c κs. search needs)
+    (λ c κs. search needs)
+    (λ c κs. search needs)
+    (λ c κs. search needs)
+    (λ c. search needs)
+    (λ c κs. search needs)
+    (λ c. search needs)
+    returns)

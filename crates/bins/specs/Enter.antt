@@ -1,0 +1,41 @@
+-- The model of making a free block and of entering a bin, on a list of bytes.
+use mathlib.Core.List.{List}
+use Prim.Native.Nat.{ℕ, _+_}
+use Rattle.words.specs.Choice.{if=}
+use Rattle.words.specs.Sums.{plus, minus}
+use Rattle.words.specs.Words.{putAt}
+use Rattle.heads.specs.Heads.{freeHead}
+use Rattle.heads.specs.Links.{linkWord}
+use Rattle.bins.specs.declared.chain.Place.{Place}
+use Rattle.paper.specs.Layout.{previous-at, next-at, level-at, chain-at, false-block}
+use Rattle.bins.specs.Find.{sizeAt, linkedAt, findBin}
+
+unfoldable pub makeFree : List ℕ → ℕ → ℕ → List ℕ
+makeFree bs q size = putAt 4 (putAt 4 bs q (freeHead size)) (minus (plus q size) 4) (freeHead size)
+
+-- q between two neighbours, the second of which may be none
+unfoldable pub between : List ℕ → ℕ → ℕ → ℕ → List ℕ
+between bs first q next =
+    let one = putAt 4 (putAt 4 bs (first + next-at) (minus q first)) (q + previous-at) (minus first q) in
+    if= next 0
+    (putAt 4 one (q + next-at) 0)
+    (putAt 4 (putAt 4 one (q + next-at) (minus next q)) (next + previous-at) (minus q next))
+
+unfoldable pub enterSecond : List ℕ → ℕ → ℕ → List ℕ
+enterSecond bs first q = between bs first q (linkedAt bs first next-at)
+
+unfoldable pub enterOnly : List ℕ → ℕ → ℕ → ℕ → List ℕ
+enterOnly bs before after q =
+    putAt 4
+    (putAt 4 (putAt 4 (putAt 4 (putAt 4 bs (q + previous-at) 0) (q + next-at) 0) (q + level-at) 1) (q + chain-at) (linkWord q after))
+    (before + chain-at) (linkWord before q)
+
+-- where the bin stands, or would stand
+unfoldable pub enterAt : List ℕ → Place → ℕ → ℕ → List ℕ
+enterAt bs at q size =
+    if= (at .first) 0
+    (enterOnly bs (at .before) 0 q)
+    (if= (sizeAt bs (at .first)) size (enterSecond bs (at .first) q) (enterOnly bs (at .before) (at .first) q))
+
+unfoldable pub enter : List ℕ → ℕ → ℕ → List ℕ
+enter bs q size = enterAt bs (findBin bs chain-at false-block size) q size

@@ -1,0 +1,3 @@
+pub mod Enter
+pub mod Find
+pub mod Leave

@@ -1,0 +1,65 @@
+// A run of bytes becomes a free large block, and a free large block enters its bin: second place, or first where the bin was empty.
+ghost use mathlib.Core.Path.{_≡_};
+ghost use Rattle.bins.specs.Enter.{makeFree, enterSecond, enterOnly, enter as enter-of};
+use crate::chain::find;
+use crate::chain::linked;
+use crate::chain::size_of;
+use paper::CHAIN;
+use paper::FALSE_BLOCK;
+use paper::LEVEL;
+use paper::NEXT;
+use paper::PREVIOUS;
+
+// The head of a free block, at its start and again in its last 4 bytes.
+pub fn make_free(pool: &mut [u8], q: u32, size: u32)
+    ensures { λ _. ⌜ now (pool .exit) ≡ makeFree (now (pool .entry)) q size ⌝ }
+{
+    let head = heads::free_head(size);
+    let foot = words::minus(words::plus(q, size), 4);
+    words::put32(pool, q as usize, head);
+    words::put32(pool, foot as usize, head);
+}
+
+// The block q becomes the second of the bin that `first` heads.
+fn enter_second(pool: &mut [u8], first: u32, q: u32)
+    ensures { λ _. ⌜ now (pool .exit) ≡ enterSecond (now (pool .entry)) first q ⌝ }
+{
+    let next = linked(pool, first, NEXT);
+    let link = heads::both_ways(first, q);
+    words::put_field(pool, first, NEXT, link.there);
+    words::put_field(pool, q, PREVIOUS, link.home);
+    if next == 0 {
+        words::put_field(pool, q, NEXT, 0);
+        return;
+    }
+    let on = heads::both_ways(q, next);
+    words::put_field(pool, q, NEXT, on.there);
+    words::put_field(pool, next, PREVIOUS, on.home);
+}
+
+// The block q becomes the only one of its bin, between `before` and `after` on the chain.
+fn enter_only(pool: &mut [u8], before: u32, after: u32, q: u32)
+    ensures { λ _. ⌜ now (pool .exit) ≡ enterOnly (now (pool .entry)) before after q ⌝ }
+{
+    words::put_field(pool, q, PREVIOUS, 0);
+    words::put_field(pool, q, NEXT, 0);
+    words::put_field(pool, q, LEVEL, 1);
+    words::put_field(pool, q, CHAIN, heads::link_word(q, after));
+    words::put_field(pool, before, CHAIN, heads::link_word(before, q));
+}
+
+// The block q enters the bin of `size`.
+pub fn enter(pool: &mut [u8], q: u32, size: u32)
+    ensures { λ _. ⌜ now (pool .exit) ≡ enter-of (now (pool .entry)) q size ⌝ }
+{
+    let place = find(pool, CHAIN, FALSE_BLOCK, size);
+    if place.first == 0 {
+        enter_only(pool, place.before, 0, q);
+        return;
+    }
+    if size_of(pool, place.first) == size {
+        enter_second(pool, place.first, q);
+        return;
+    }
+    enter_only(pool, place.before, place.first, q);
+}

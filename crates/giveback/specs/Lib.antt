@@ -1,0 +1,3 @@
+pub mod GiveBack
+pub mod Large
+pub mod Small

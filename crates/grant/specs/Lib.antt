@@ -1,0 +1,3 @@
+pub mod Large
+pub mod Small
+pub mod Take
