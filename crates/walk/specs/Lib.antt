@@ -1,0 +1,4 @@
+pub mod Blocks
+pub mod Classes
+pub mod LookUp
+pub mod Tallies

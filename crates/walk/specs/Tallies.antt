@@ -1,0 +1,39 @@
+-- The model of the figures: each block adds to them.
+use mathlib.Core.List.{List}
+use Prim.Native.Nat.{ℕ, max}
+use Rattle.words.specs.Choice.{if<, when}
+use Rattle.words.specs.Sums.{plus, minus}
+use Rattle.words.specs.Words.{wordAt}
+use Rattle.heads.specs.declared.head.Head.{Head}
+use Rattle.paper.specs.declared.Figures.{Figures}
+use Rattle.paper.specs.Layout.{free-word-at, start-at, end-at, blocks-at, large}
+use Rattle.walk.specs.Blocks.{blocksFrom, poolEnd}
+
+unfoldable pub counted : Figures → Head → Figures
+counted t h =
+    when (h .held)
+      (record { «held_blocks» = plus (t .«held_blocks») 1; «held_bytes» = plus (t .«held_bytes») (h .size); «free_small» = t .«free_small»
+              ; «free_large» = t .«free_large»; remainder = t .remainder; «free_word» = t .«free_word»; largest = t .largest })
+      (if< (h .size) large
+        (record { «held_blocks» = t .«held_blocks»; «held_bytes» = t .«held_bytes»; «free_small» = plus (t .«free_small») 1
+                ; «free_large» = t .«free_large»; remainder = t .remainder; «free_word» = t .«free_word»; largest = max (t .largest) (h .size) })
+        (record { «held_blocks» = t .«held_blocks»; «held_bytes» = t .«held_bytes»; «free_small» = t .«free_small»
+                ; «free_large» = plus (t .«free_large») 1; remainder = t .remainder; «free_word» = t .«free_word»; largest = max (t .largest) (h .size) }))
+
+-- before any block is counted: the remainder is the greatest free block
+unfoldable pub bare : List ℕ → Figures
+bare bs =
+    let rest = minus (wordAt 4 bs end-at) (wordAt 4 bs start-at) in
+    record { «held_blocks» = 0; «held_bytes» = 0; «free_small» = 0; «free_large» = 0; remainder = rest
+           ; «free_word» = wordAt 4 bs free-word-at; largest = rest }
+
+unfoldable pub lessFour : Figures → Figures
+lessFour t =
+    record { «held_blocks» = t .«held_blocks»; «held_bytes» = t .«held_bytes»; «free_small» = t .«free_small»
+           ; «free_large» = t .«free_large»; remainder = t .remainder; «free_word» = t .«free_word»; largest = minus (t .largest) 4 }
+
+abbrev pub tallyRun : List ℕ → ℕ → ℕ → Figures → Figures
+tallyRun bs from to t = blocksFrom counted bs from to t
+
+unfoldable pub tally : List ℕ → Figures
+tally bs = lessFour (tallyRun bs (wordAt 4 bs end-at) (poolEnd bs) (tallyRun bs blocks-at (wordAt 4 bs start-at) (bare bs)))

@@ -1,0 +1,75 @@
+// The figures of a pool.
+ghost use mathlib.Core.Path.{_≡_};
+ghost use Prim.Native.Nat.{max};
+ghost use Rattle.walk.specs.Tallies.{counted as counted-of, tallyRun, tally as tally-of};
+use heads::Head;
+use paper::BLOCKS;
+use paper::END;
+use paper::FREE_WORD;
+use paper::Figures;
+use paper::LARGE;
+use paper::START;
+
+fn greater(a: u32, b: u32) -> u32
+    ensures { λ r. ⌜ r ≡ max a b ⌝ }
+{
+    if a < b { b } else { a }
+}
+
+// With one block more.
+fn counted(t: Figures, head: Head) -> Figures
+    ensures { λ r. ⌜ r ≡ counted-of t head ⌝ }
+{
+    let mut next = t;
+    if head.held {
+        next.held_blocks = words::plus(t.held_blocks, 1);
+        next.held_bytes = words::plus(t.held_bytes, head.size);
+        return next;
+    }
+    next.largest = greater(t.largest, head.size);
+    if head.size < LARGE {
+        next.free_small = words::plus(t.free_small, 1);
+        return next;
+    }
+    next.free_large = words::plus(t.free_large, 1);
+    next
+}
+
+// With the blocks from `from` to `to`.
+fn tally_run(pool: &[u8], from: u32, to: u32, first: Figures) -> Figures
+    ensures { λ r. ⌜ r ≡ tallyRun (now (pool .entry)) from to first ⌝ }
+{
+    let end = to as usize;
+    let mut at = from as usize;
+    let mut t = first;
+    while at < end {
+        let head = heads::apart(words::get32(pool, at));
+        if head.size == 0 {
+            return t;
+        }
+        t = counted(t, head);
+        at += head.size as usize;
+    }
+    t
+}
+
+pub fn tally(pool: &[u8]) -> Figures
+    ensures { λ r. ⌜ r ≡ tally-of (now (pool .entry)) ⌝ }
+{
+    let start = words::get32(pool, START);
+    let end = words::get32(pool, END);
+    let remainder = words::minus(end, start);
+    let none = Figures {
+        held_blocks: 0,
+        held_bytes: 0,
+        free_small: 0,
+        free_large: 0,
+        remainder,
+        free_word: words::get32(pool, FREE_WORD),
+        largest: remainder,
+    };
+    let low = tally_run(pool, BLOCKS, start, none);
+    let mut all = tally_run(pool, end, crate::pool_end(pool), low);
+    all.largest = words::minus(all.largest, 4);
+    all
+}
