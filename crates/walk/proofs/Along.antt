@@ -43,5 +43,8 @@ module _ {A : Type 0} {f : A → Head → A} {bs : List ℕ} {from to : ℕ} {x�
 
     pub goes-on : h .size ≢ 0 → (y : A) → y ≡ f x h → Along f bs from to x₀ (at + h .size) y
     goes-on n y g =
-        record { fuel = opened .0; enough = omega (arith, opened .1)
-               ; same = opened .2 ∙ if=-no (h .size) 0 _ _ n ∙ ap (along f bs (opened .0) (at + h .size) to) (sym g) }
+        record {
+          fuel = opened .0;
+          enough = omega (arith, opened .1);
+          same = opened .2 ∙ if=-no (h .size) 0 _ _ n ∙ ap (along f bs (opened .0) (at + h .size) to) (sym g);
+        }

@@ -30,4 +30,4 @@ classesRun bs from to x = blocksFrom classed bs from to x
 unfoldable pub classCounts : List ℕ → List ℕ → Counts
 classCounts bs cs =
     classesRun bs (wordAt 4 bs end-at) (poolEnd bs)
-      (classesRun bs blocks-at (wordAt 4 bs start-at) (counting 0 (replicate (length cs) 0)))
+    (classesRun bs blocks-at (wordAt 4 bs start-at) (counting 0 (replicate (length cs) 0)))

@@ -21,5 +21,5 @@ heldFrom bs from start = heldHere bs (blocksFrom past bs from start from) start
 unfoldable pub heldAt : List ℕ → ℕ → ℕ
 heldAt bs offset =
     if< offset 4
-      0
-      (if< (offset - 4) (wordAt 4 bs start-at) (heldFrom bs blocks-at (offset - 4)) (heldFrom bs (wordAt 4 bs end-at) (offset - 4)))
+    0
+    (if< (offset - 4) (wordAt 4 bs start-at) (heldFrom bs blocks-at (offset - 4)) (heldFrom bs (wordAt 4 bs end-at) (offset - 4)))

@@ -12,25 +12,60 @@ use Rattle.walk.specs.Blocks.{blocksFrom, poolEnd}
 unfoldable pub counted : Figures → Head → Figures
 counted t h =
     when (h .held)
-      (record { «held_blocks» = plus (t .«held_blocks») 1; «held_bytes» = plus (t .«held_bytes») (h .size); «free_small» = t .«free_small»
-              ; «free_large» = t .«free_large»; remainder = t .remainder; «free_word» = t .«free_word»; largest = t .largest })
-      (if< (h .size) large
-        (record { «held_blocks» = t .«held_blocks»; «held_bytes» = t .«held_bytes»; «free_small» = plus (t .«free_small») 1
-                ; «free_large» = t .«free_large»; remainder = t .remainder; «free_word» = t .«free_word»; largest = max (t .largest) (h .size) })
-        (record { «held_blocks» = t .«held_blocks»; «held_bytes» = t .«held_bytes»; «free_small» = t .«free_small»
-                ; «free_large» = plus (t .«free_large») 1; remainder = t .remainder; «free_word» = t .«free_word»; largest = max (t .largest) (h .size) }))
+    (record {
+      «held_blocks» = plus (t .«held_blocks») 1;
+      «held_bytes» = plus (t .«held_bytes») (h .size);
+      «free_small» = t .«free_small»;
+      «free_large» = t .«free_large»;
+      remainder = t .remainder;
+      «free_word» = t .«free_word»;
+      largest = t .largest;
+    })
+    (if< (h .size) large
+    (record {
+      «held_blocks» = t .«held_blocks»;
+      «held_bytes» = t .«held_bytes»;
+      «free_small» = plus (t .«free_small») 1;
+      «free_large» = t .«free_large»;
+      remainder = t .remainder;
+      «free_word» = t .«free_word»;
+      largest = max (t .largest) (h .size);
+    })
+    (record {
+      «held_blocks» = t .«held_blocks»;
+      «held_bytes» = t .«held_bytes»;
+      «free_small» = t .«free_small»;
+      «free_large» = plus (t .«free_large») 1;
+      remainder = t .remainder;
+      «free_word» = t .«free_word»;
+      largest = max (t .largest) (h .size);
+    }))
 
 -- before any block is counted: the remainder is the greatest free block
 unfoldable pub bare : List ℕ → Figures
 bare bs =
     let rest = minus (wordAt 4 bs end-at) (wordAt 4 bs start-at) in
-    record { «held_blocks» = 0; «held_bytes» = 0; «free_small» = 0; «free_large» = 0; remainder = rest
-           ; «free_word» = wordAt 4 bs free-word-at; largest = rest }
+    record {
+      «held_blocks» = 0;
+      «held_bytes» = 0;
+      «free_small» = 0;
+      «free_large» = 0;
+      remainder = rest;
+      «free_word» = wordAt 4 bs free-word-at;
+      largest = rest;
+    }
 
 unfoldable pub lessFour : Figures → Figures
 lessFour t =
-    record { «held_blocks» = t .«held_blocks»; «held_bytes» = t .«held_bytes»; «free_small» = t .«free_small»
-           ; «free_large» = t .«free_large»; remainder = t .remainder; «free_word» = t .«free_word»; largest = minus (t .largest) 4 }
+    record {
+      «held_blocks» = t .«held_blocks»;
+      «held_bytes» = t .«held_bytes»;
+      «free_small» = t .«free_small»;
+      «free_large» = t .«free_large»;
+      remainder = t .remainder;
+      «free_word» = t .«free_word»;
+      largest = minus (t .largest) 4;
+    }
 
 abbrev pub tallyRun : List ℕ → ℕ → ℕ → Figures → Figures
 tallyRun bs from to t = blocksFrom counted bs from to t

@@ -6,7 +6,6 @@ mod tallies;
 pub use class_counts::count_classes;
 pub use look_up::held_at;
 pub use tallies::tally;
-
 ghost use mathlib.Core.Path.{_≡_};
 ghost use Rattle.walk.specs.Blocks.{poolEnd};
 

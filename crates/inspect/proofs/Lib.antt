@@ -1,0 +1,9 @@
+pub mod Guards
+pub mod MarkLists
+pub mod Scanning
+pub mod Chains
+pub mod Accept
+pub mod Build
+pub mod Simulation
+pub mod Decide
+pub mod Whole

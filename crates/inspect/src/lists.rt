@@ -1,0 +1,173 @@
+// The lists of the bins. Each member must be marked, and its mark goes, so none is met twice and no ring is followed for ever.
+use crate::fields::link_ok;
+use paper::CHAIN;
+use paper::FALSE_BLOCK;
+use paper::LARGE;
+use paper::LEVEL;
+use paper::NEXT;
+use paper::PREVIOUS;
+use paper::SMALL_BINS;
+use paper::SMALL_NEXT;
+ghost use mathlib.Core.Path.{_≡_};
+ghost use Prim.Native.Nat.{suc};
+ghost use lib.Dec.{ltb};
+ghost use Rattle.inspect.specs.Tests.{pass};
+ghost use Rattle.inspect.specs.MarkSets.{bitMarks, markAt};
+ghost use Rattle.inspect.specs.Lists.{large-words, first-words, followSmall, followLarge, smalls, chain, lists};
+ghost use Rattle.inspect.specs.Contract.{to-left};
+
+pub struct Left {
+    pub ok: bool,
+    pub left: usize,
+}
+
+// All the lists, where k starts are marked: at the end no mark is left.
+pub fn all_listed(pool: &[u8], m: &mut [u64], k: usize) -> bool
+    ensures { λ r. ⌜ r ≡ lists bitMarks (now (pool .entry)) k (now (m .entry)) ⌝ }
+{
+    let r = small_bins(pool, m, k);
+    if !r.ok {
+        return false;
+    }
+    large_bins(
+        pool,
+        m,
+        r.left,
+        heads::follow(FALSE_BLOCK, words::field(pool, FALSE_BLOCK, CHAIN)),
+    )
+}
+
+// The eight small bins, whose first blocks stand in the header.
+fn small_bins(pool: &[u8], m: &mut [u64], k: usize) -> Left
+    ensures { λ r. ⌜ to-left r (now (m .exit)) ≡ smalls bitMarks (now (pool .entry)) 8 8 k (now (m .entry)) ⌝ }
+{
+    let mut left = k;
+    let mut z: u32 = 8;
+    while z != LARGE {
+        let f = words::field(pool, z, SMALL_BINS);
+        let r = follow_small(pool, m, left, z, f);
+        if !r.ok {
+            return Left { ok: false, left: 0 };
+        }
+        left = r.left;
+        z += 8;
+    }
+    Left { ok: true, left }
+}
+
+// The large bins, from the first block f0 on: sizes rise, and at the end no mark is left.
+fn large_bins(pool: &[u8], m: &mut [u64], k: usize, f0: u32) -> bool
+    ensures { λ r. ⌜ r ≡ chain bitMarks (now (pool .entry)) (suc k) k (now (m .entry)) 64 f0 ⌝ }
+{
+    let mut left = k;
+    let mut y: u32 = 64;
+    let mut f = f0;
+    while f != 0 {
+        let w = words::get32(pool, f as usize);
+        let u = words::field(pool, f, CHAIN);
+        if !first_ok(y, f, w, words::field(pool, f, LEVEL), u) {
+            return false;
+        }
+        let z = w / 4;
+        let r = follow_large(pool, m, left, z, f);
+        if !r.ok {
+            return false;
+        }
+        left = r.left;
+        y = z;
+        f = heads::follow(f, u);
+    }
+    left == 0
+}
+
+// The small bin of size z from `first` on.
+fn follow_small(pool: &[u8], m: &mut [u64], k: usize, z: u32, first: u32) -> Left
+    ensures { λ r. ⌜ to-left r (now (m .exit)) ≡ followSmall bitMarks (now (pool .entry)) z k (now (m .entry)) first ⌝ }
+{
+    let mut left = k;
+    let mut q = first;
+    while q != 0 {
+        if left == 0 {
+            return Left { ok: false, left: 0 };
+        }
+        if !marked(m, q) {
+            return Left { ok: false, left: 0 };
+        }
+        if words::get32(pool, q as usize) / 4 != z {
+            return Left { ok: false, left: 0 };
+        }
+        marks::take_out(m, (q / 8) as usize);
+        left -= 1;
+        q = words::field(pool, q, SMALL_NEXT);
+    }
+    Left { ok: true, left }
+}
+
+// The large bin of size z from `first` on; p is the member before q, 0 before the first.
+fn follow_large(pool: &[u8], m: &mut [u64], k: usize, z: u32, first: u32) -> Left
+    ensures { λ r. ⌜ to-left r (now (m .exit)) ≡ followLarge bitMarks (now (pool .entry)) z k (now (m .entry)) first ⌝ }
+{
+    let mut left = k;
+    let mut p: u32 = 0;
+    let mut q = first;
+    while q != 0 {
+        if left == 0 {
+            return Left { ok: false, left: 0 };
+        }
+        if !marked(m, q) {
+            return Left { ok: false, left: 0 };
+        }
+        let u = words::field(pool, q, NEXT);
+        if !large_ok(
+            z,
+            p,
+            q,
+            words::get32(pool, q as usize),
+            words::field(pool, q, PREVIOUS),
+            u,
+        ) {
+            return Left { ok: false, left: 0 };
+        }
+        marks::take_out(m, (q / 8) as usize);
+        left -= 1;
+        p = q;
+        q = heads::follow(q, u);
+    }
+    Left { ok: true, left }
+}
+
+// Whether the start q is marked; what is no multiple of 8 is not.
+fn marked(m: &[u64], q: u32) -> bool
+    ensures { λ r. ⌜ r ≡ ltb 0 (markAt (now (m .entry)) q) ⌝ }
+{
+    if q % 8 == 0 {
+        return marks::has(m, (q / 8) as usize);
+    }
+    false
+}
+
+// The member q after p of the bin of size z, by its head w, its link back v and its link on u.
+fn large_ok(z: u32, p: u32, q: u32, w: u32, v: u32, u: u32) -> bool
+    ensures { λ r. ⌜ r ≡ pass (large-words z p q w v u) ⌝ }
+{
+    if w / 4 != z {
+        return false;
+    }
+    if v != heads::link_word(q, p) {
+        return false;
+    }
+    link_ok(q, u)
+}
+
+// The first block f of the bin after size y, by its head w, its level word v and its chain word u.
+fn first_ok(y: u32, f: u32, w: u32, v: u32, u: u32) -> bool
+    ensures { λ r. ⌜ r ≡ pass (first-words y f w v u) ⌝ }
+{
+    if w / 4 <= y {
+        return false;
+    }
+    if v != 1 {
+        return false;
+    }
+    link_ok(f, u)
+}

@@ -1,0 +1,12 @@
+pub mod Allowed
+pub mod Octets
+pub mod Written
+pub mod Stores
+pub mod Bins
+pub mod Seek
+pub mod Distances
+pub mod Walk
+pub mod Fields
+pub mod Listed
+pub mod Readings
+pub mod Unique

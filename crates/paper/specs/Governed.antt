@@ -1,0 +1,99 @@
+-- "Bytes of the pool": the governed words of a state, by address.
+--
+--     0 .. 95     twelve words of 8 bytes: free word; 96; R; E; the first block of each small bin 8, 16, .. 64, or 0
+--     96 .. 167   the false block: all zero, but the level word at +12 and the chain word at +64 (the index words, where the index is higher)
+--     168 .. n    the blocks:  +0 head
+--                   small free:  +4 next of its bin, an offset in the pool
+--                   large free:  +4 +8 links to the previous and next of its bin;  -4 the head again
+--                   first of a large bin:  +12 level word;  +68 - 4 j the index word of level j, so +64 the chain word
+use mathlib.Core.List.{List, [], _∷_}
+use mathlib.Core.Option.{Option, none, some}
+use Prim.Native.Nat.{ℕ, zero, suc, _+_, _-_, _*_, _/_, _%_, min}
+use Rattle.words.specs.Choice.{if=, if<}
+use Rattle.heads.specs.Links.{linkWord}
+use Rattle.paper.specs.Layout.{false-block, blocks-at, large, small-next-at, previous-at, next-at, level-at, chain-at}
+use Rattle.paper.specs.Blocks.{Kind, held, free, remainder, Block, block, State, size, blocks, total, end, freeSum}
+use Rattle.paper.specs.Bins.{first, prevIn, nextIn, seek}
+use Rattle.paper.specs.Sheet.{Sheet}
+
+-- "a is 1 for held"
+abbrev pub heldBit : Kind → ℕ
+heldBit held = 1
+heldBit free = 0
+heldBit remainder = 0
+
+-- "P is 1 unless the block next below is a free large block": P of the block above b
+abbrev pub flagAbove : Block → ℕ
+flagAbove (block z held) = 1
+flagAbove (block z remainder) = 1
+flagAbove (block z free) = if< z large 1 0
+
+-- "Head word = 4 × size + 2 × P + a"
+abbrev pub headWord : ℕ → Kind → ℕ → ℕ
+headWord z k P = 4 * z + 2 * P + heldBit k
+
+abbrev pub link : ℕ → Option ℕ → Option ℕ
+link p none = none
+link p (some q) = some (linkWord p q)
+
+-- how many of the low k bits of x are 0 below the lowest 1
+unfoldable pub zeros : ℕ → ℕ → ℕ
+zeros zero x = 0
+zeros (suc k) x = if= (x % 2) 1 0 (suc (zeros k (x / 2)))
+
+-- up to which level the bin of size z stands in an index t high
+unfoldable pub height : ℕ → ℕ → ℕ
+height t z = min t (suc (zeros 13 (z / 8)))
+
+-- ---- the words of a block. t: how high the index is; n: no size is larger
+
+module _ (t n : ℕ) (bins : ℕ → List ℕ) where
+  -- the first of bin z, where it stands in level j
+  unfoldable pub reach : ℕ → ℕ → ℕ
+  reach j z = if< (height t z) j 0 (first (bins z))
+
+  -- the first block of the next bin past size y that stands in level j, or 0
+  unfoldable pub above : ℕ → ℕ → ℕ
+  above j y = seek (reach j) n (suc y)
+
+  -- level word and index words of the first block of a bin: it starts at p, has size y and height h; d stands at the other words
+  unfoldable pub index : Option ℕ → ℕ → ℕ → ℕ → ℕ → Option ℕ
+  index d h p y o =
+      if= o level-at (some h) (if< o (chain-at + 4 - 4 * h) d (if< chain-at o d (some (linkWord p (above ((chain-at + 4 - o) / 4) y)))))
+
+  -- word o of the free large block at p, of size z
+  unfoldable pub largeWord : ℕ → ℕ → ℕ → ℕ → Option ℕ
+  largeWord p z P o =
+      if= o previous-at (link p (prevIn 0 (bins z) p))
+      (if= o next-at (link p (nextIn (bins z) p))
+      (if= o (z - 4) (some (headWord z free P)) (if= (first (bins z)) p (index none (height t z) p z o) none)))
+
+  unfoldable pub smallWord : ℕ → ℕ → ℕ → Option ℕ
+  smallWord p z o = if= o small-next-at (nextIn (bins z) p) none
+
+  -- past the head, only a free block has governed words
+  abbrev pub pastHead : ℕ → ℕ → Kind → ℕ → ℕ → Option ℕ
+  pastHead p z held P o = none
+  pastHead p z remainder P o = none
+  pastHead p z free P o = if< z large (smallWord p z o) (largeWord p z P o)
+
+  abbrev pub blockWord : ℕ → Block → ℕ → ℕ → Option ℕ
+  blockWord p (block z k) P o = if= o 0 (some (headWord z k P)) (pastHead p z k P o)
+
+-- ---- the pool
+
+-- the walk from p, where P is due, to the block that has address a
+unfoldable pub walk : (ℕ → Block → ℕ → ℕ → Option ℕ) → List Block → ℕ → ℕ → ℕ → Option ℕ
+walk f [] p P a = none
+walk f (b ∷ xs) p P a = if< a (p + size b) (f p b P (a - p)) (walk f xs (p + size b) (flagAbove b) a)
+
+unfoldable pub headerWord : State → ℕ → ℕ
+headerWord s w =
+    if= w 0 (freeSum (blocks s) - 4)
+    (if= w 1 false-block (if= w 2 (blocks-at + total (s .low)) (if= w 3 (blocks-at + total (s .low) + s .rest) (first (s .bins (8 * (w - 3)))))))
+
+unfoldable pub sheet : State → Sheet
+sheet s a =
+    if< a false-block (if= (a % 8) 0 (some (headerWord s (a / 8))) (some 0))
+    (if< a blocks-at (index (s .top) (end s) (s .bins) (some 0) (s .top) false-block 64 (a - false-block))
+    (walk (blockWord (s .top) (end s) (s .bins)) (blocks s) blocks-at 1 a))

@@ -1,0 +1,24 @@
+-- pool::lent meets its contract, by the block that was found.
+use Rattle.pool.specs.Calls.{lent}
+use borrow.Author.Needs.{needs}
+use Rattle.pool.proofs.parts.lent.Statement.{statement}
+use Rattle.pool.proofs.parts.lent.Tie as tie
+
+returns : tie.Need-returns
+unfolding lent
+returns c = rw (← c .before .before .look-up .ensures, c .enum-told .given .1)
+
+returns-2 : tie.Need-returns-2
+unfolding lent
+returns-2 c = rw (← c .before .before .before .before .look-up .ensures, c .before .before .found .given .1) (cc)
+
+pub lent-spec : {M : Type 1} → statement M
+lent-spec =
+    tie.close
+    (tie.spec
+    (λ c κs. search needs)
+    (λ c. search needs)
+    (λ c. search needs)
+    returns
+    (λ c κs. search needs)
+    returns-2)

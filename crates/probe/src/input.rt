@@ -1,0 +1,36 @@
+// What is read from standard input.
+use libc::STDIN_FILENO;
+
+// The next command's letter, 0 at the end of the input or for the letter 0.
+pub fn letter() -> u8 {
+    let mut one = [0u8; 1];
+    let got = io::read_full(STDIN_FILENO, &mut one);
+    if got == 0 {
+        return 0;
+    }
+    one[0]
+}
+
+// A number of 4 bytes, if there are 4 bytes more.
+pub enum Number {
+    Of(u32),
+    Short,
+}
+
+pub fn number() -> Number {
+    let mut four = [0u8; 4];
+    let got = io::read_full(STDIN_FILENO, &mut four);
+    if got != 4 {
+        return Number::Short;
+    }
+    Number::Of(words::get32(&four, 0))
+}
+
+// Whether `to` was filled.
+pub fn fill(to: &mut [u8]) -> bool {
+    let n = to.len();
+    if n == 0 {
+        return true;
+    }
+    io::read_full(STDIN_FILENO, to) == n
+}

@@ -1,0 +1,32 @@
+// The bench's view of one pool image: commands from standard input, a line for each on standard output.
+// Every word that matters is answered by the pool's own calls; this program only reads numbers and prints answers.
+mod calls;
+mod input;
+mod output;
+
+use calls::Next;
+
+// The commands, one after the other; a run of more than 2^64 - 1 of them would end there.
+fn run(buffer: &mut [u8], body: &mut [u8]) {
+    let mut n: usize = 0;
+    let mut left: u64 = 18446744073709551615;
+    while left != 0 {
+        let letter = input::letter();
+        if letter == 0 {
+            return;
+        }
+        let next = calls::step(buffer, body, n, letter);
+        if !next.going {
+            output::unreadable();
+            return;
+        }
+        n = next.n;
+        left -= 1;
+    }
+}
+
+fn main() {
+    let mut buffer = [0u8; 65536];
+    let mut body = [0u8; 65536];
+    run(&mut buffer, &mut body);
+}
