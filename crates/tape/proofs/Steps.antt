@@ -1,0 +1,42 @@
+-- A request is served: one law for each kind, from the call's equation and the line that was printed.
+use mathlib.Core.Path.{_≡_, refl, sym, ap, _∙_}
+use mathlib.Core.List.{List}
+use Prim.Native.Nat.{ℕ}
+use Rattle.paper.specs.Answers.{Out, out}
+use Rattle.paper.specs.declared.Answer.{Answer}
+use Rattle.paper.specs.declared.Tally.{Tally}
+use Rattle.pool.specs.Fresh.{layOut}
+use Rattle.pool.specs.Calls.{take, giveBack}
+use Rattle.tape.specs.declared.request.Request.the-variants.{LayOut, Take, GiveBack, Figures}
+use Rattle.tape.specs.Records.{letterOf}
+use Rattle.tape.specs.Lines.{lineOf, answered, tallied, Printed}
+use Rattle.tape.specs.Serve.{pool, onFirst, figuresFirst, accepted, serve}
+use Rattle.tape.specs.Step.{Stepped}
+
+module _ {n nth at next : ℕ} {buffer before page : List ℕ} where
+  pub laid-out : {a : Answer} {after : List ℕ} {m : ℕ} (new : ℕ) → onFirst layOut new buffer ≡ out a after → m ≡ accepted a new n
+      → Printed at before (lineOf nth (letterOf (LayOut new)) (answered a)) next page
+      → Stepped (pool n buffer) (LayOut new) nth at before m after next page
+  unfolding serve
+  laid-out {after = after} new e f h =
+      record {
+        kept = ap (λ (o : Out). pool (accepted (o .answer) new n) (o .after)) e ∙ ap (λ (k : ℕ). pool k after) (sym f);
+        printed = rw e h;
+      }
+
+  pub taken : {a : Answer} {after : List ℕ} (size : ℕ) → onFirst (λ s. take s size) n buffer ≡ out a after
+      → Printed at before (lineOf nth (letterOf (Take size)) (answered a)) next page
+      → Stepped (pool n buffer) (Take size) nth at before n after next page
+  unfolding serve
+  taken size e h = record { kept = ap (λ (o : Out). pool n (o .after)) e; printed = rw e h }
+
+  pub given-back : {a : Answer} {after : List ℕ} (offset : ℕ) → onFirst (λ s. giveBack s offset) n buffer ≡ out a after
+      → Printed at before (lineOf nth (letterOf (GiveBack offset)) (answered a)) next page
+      → Stepped (pool n buffer) (GiveBack offset) nth at before n after next page
+  unfolding serve
+  given-back offset e h = record { kept = ap (λ (o : Out). pool n (o .after)) e; printed = rw e h }
+
+  pub counted : {t : Tally} → t ≡ figuresFirst n buffer → Printed at before (lineOf nth (letterOf Figures) (tallied t)) next page
+      → Stepped (pool n buffer) Figures nth at before n buffer next page
+  unfolding serve
+  counted e h = record { kept = refl; printed = rw (← e) h }

@@ -1,0 +1,24 @@
+-- tape::lines::line meets its contract: the line is put piece by piece, and its numbers have at most ten digits.
+use native.Mathlib.Omega.{arith}
+use borrow.Author.Needs.{needs}
+use Rattle.tape.proofs.Print.{pieces, line-short}
+use Rattle.tape.proofs.lines.line.Statement.{statement}
+use Rattle.tape.proofs.lines.line.Tie as tie
+
+returns : tie.Need-returns
+returns c =
+    record {
+      same = simp pieces (cc);
+      short = line-short _ _ _ _ (omega arith) (omega arith) (omega arith, tt) (omega arith);
+    }
+
+pub line-spec : {M : Type 1} → statement M
+line-spec =
+    tie.close
+    (tie.spec
+    (λ c κs. search needs)
+    (λ c κs. search needs)
+    (λ c κs. search needs)
+    (λ c κs. search needs)
+    (λ c. search needs)
+    returns)

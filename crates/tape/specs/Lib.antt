@@ -1,0 +1,5 @@
+pub mod Records
+pub mod Lines
+pub mod Serve
+pub mod Step
+pub mod Run
