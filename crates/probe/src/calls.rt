@@ -19,7 +19,7 @@ fn goes_on(n: usize) -> Next {
 
 // I: the pool is these bytes.
 fn image(buffer: &mut [u8]) -> Next {
-    let Number::Of(k) = input::number() else {
+    let Number::Of(k) = input::next_number() else {
         return stopped();
     };
     let n = k as usize;
@@ -62,24 +62,28 @@ fn length_of(part: &[u8]) -> u32 {
 
 // W: the payload at `offset`, for writing.
 fn write_part(pool: &mut [u8], body: &mut [u8]) -> bool {
-    let Number::Of(offset) = input::number() else {
+    let Number::Of(offset) = input::next_number() else {
         return false;
     };
-    let Number::Of(k) = input::number() else {
+    let Number::Of(k) = input::next_number() else {
         return false;
     };
     let size = k as usize;
     if body.len() < size {
         return false;
     }
-    if !input::fill(&mut body[..size]) {
+    write_from(pool, offset, &mut body[..size])
+}
+
+fn write_from(pool: &mut [u8], offset: u32, body: &mut [u8]) -> bool {
+    if !input::fill(body) {
         return false;
     }
     output::text(b"W");
     output::answer(pool::ask(pool, offset));
     let part = pool::lend_mut(pool, offset);
     output::spaced(length_of(part));
-    copy(part, &body[..size]);
+    copy(part, body);
     output::text(b"\n");
     true
 }
@@ -98,7 +102,7 @@ fn copy(to: &mut [u8], from: &[u8]) {
 
 // C: the class count, into k counters that start as 7.
 fn classes(pool: &[u8]) -> bool {
-    let Number::Of(k) = input::number() else {
+    let Number::Of(k) = input::next_number() else {
         return false;
     };
     if 64 < k {
@@ -106,11 +110,15 @@ fn classes(pool: &[u8]) -> bool {
     }
     let size = k as usize;
     let mut counts = [7u32; 64];
-    output::text(b"C");
-    output::answer(pool::class_count(pool, &mut counts[..size]));
-    counters(&counts[..size]);
-    output::text(b"\n");
+    count_into(pool, &mut counts[..size]);
     true
+}
+
+fn count_into(pool: &[u8], counts: &mut [u32]) {
+    output::text(b"C");
+    output::answer(pool::class_count(pool, counts));
+    counters(counts);
+    output::text(b"\n");
 }
 
 fn counters(counts: &[u32]) {
@@ -139,7 +147,7 @@ fn on_pool(pool: &mut [u8], body: &mut [u8], letter: u8) -> bool {
         b'C' => return classes(pool),
         b'W' => return write_part(pool, body),
         b'T' | b'G' | b'A' | b'P' => {
-            let Number::Of(v) = input::number() else {
+            let Number::Of(v) = input::next_number() else {
                 return false;
             };
             with_number(pool, letter, v);

@@ -1,14 +1,19 @@
 // What is read from standard input.
 use libc::STDIN_FILENO;
 
-// The next command's letter, 0 at the end of the input or for the letter 0.
-pub fn letter() -> u8 {
+// The next command's letter, if the input has not ended.
+pub enum Letter {
+    Is(u8),
+    End,
+}
+
+pub fn next_letter() -> Letter {
     let mut one = [0u8; 1];
     let got = io::read_full(STDIN_FILENO, &mut one);
     if got == 0 {
-        return 0;
+        return Letter::End;
     }
-    one[0]
+    Letter::Is(one[0])
 }
 
 // A number of 4 bytes, if there are 4 bytes more.
@@ -17,7 +22,7 @@ pub enum Number {
     Short,
 }
 
-pub fn number() -> Number {
+pub fn next_number() -> Number {
     let mut four = [0u8; 4];
     let got = io::read_full(STDIN_FILENO, &mut four);
     if got != 4 {

@@ -4,17 +4,16 @@ mod calls;
 mod input;
 mod output;
 
-use calls::Next;
+use input::Letter;
 
 // The commands, one after the other; a run of more than 2^64 - 1 of them would end there.
 fn run(buffer: &mut [u8], body: &mut [u8]) {
     let mut n: usize = 0;
     let mut left: u64 = 18446744073709551615;
     while left != 0 {
-        let letter = input::letter();
-        if letter == 0 {
+        let Letter::Is(letter) = input::next_letter() else {
             return;
-        }
+        };
         let next = calls::step(buffer, body, n, letter);
         if !next.going {
             output::unreadable();

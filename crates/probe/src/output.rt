@@ -1,4 +1,5 @@
 // What is written to standard output.
+ghost use Prim.Native.Nat.{_<_};
 use libc::STDOUT_FILENO;
 use paper::Answer;
 use paper::Figures;
@@ -74,25 +75,41 @@ fn digit(v: u8) -> u8 {
     }
 }
 
-// Some bytes in lower-case hex, by way of a buffer of 4,096 digits; `-` where there are none.
+// Writes the digits where they fill the buffer; answers how many are left in it.
+fn flushed(digits: &[u8; 4098], used: usize) -> usize
+    ensures { λ r. ⌜ r < 4096 ⌝ }
+{
+    if used < 4096 {
+        return used;
+    }
+    text(digits_of(digits, used));
+    0
+}
+
+fn digits_of(digits: &[u8], used: usize) -> &[u8] {
+    let n = digits.len();
+    if n < used {
+        return &digits[n..];
+    }
+    &digits[..used]
+}
+
+// Some bytes in lower-case hex, by way of a buffer; `-` where there are none.
 pub fn hex(s: &[u8]) {
     text(b" ");
     if s.len() == 0 {
         text(b"-");
         return;
     }
-    let mut digits = [0u8; 4096];
+    let mut digits = [0u8; 4098];
     let mut used: usize = 0;
     let mut i = 0;
     while i < s.len() {
-        if used == 4096 {
-            text(&digits);
-            used = 0;
-        }
-        digits[used] = digit(s[i] / 16);
-        digits[used + 1] = digit(s[i] % 16);
-        used += 2;
+        let at = flushed(&digits, used);
+        digits[at] = digit(s[i] / 16);
+        digits[at + 1] = digit(s[i] % 16);
+        used = at + 2;
         i += 1;
     }
-    text(&digits[..used]);
+    text(digits_of(&digits, used));
 }

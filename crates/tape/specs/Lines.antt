@@ -38,7 +38,7 @@ abbrev pub sevenOf : Figures → List ℕ
 sevenOf f =
     f .«held_blocks» ∷ f .«held_bytes» ∷ f .«free_small» ∷ f .«free_large» ∷ f .remainder ∷ f .«free_word» ∷ f .largest ∷ []
 
--- "refused figures are seven zeros, printed on the tape as one 0"
+-- "Refused figures are seven zeros, printed on the tape as one 0."
 abbrev pub tallied : Tally → List ℕ
 tallied (Counted f) = 0 ∷ sevenOf f
 tallied (Refused k) = k ∷ 0 ∷ []

@@ -1,6 +1,6 @@
 -- The run of a tape. "The run stops at the first record it cannot read (other kind, short body); that refusal is the record's own,
--- and what earlier records did to the pool stays. A tape longer than 32,768 bytes prints only `0 X 7 0`. An unreadable record prints
--- X, 7, 0 and is last. An empty tape prints nothing."
+-- and what earlier records did to the pool stays. The program reads a tape of at most 32,768 bytes; a longer one prints only `0 X 7 0`.
+-- An unreadable record prints X, 7, 0 and is last. An empty tape prints nothing."
 use mathlib.Core.List.{List, [], _∷_, _++_}
 use Prim.Native.Nat.{ℕ, zero, suc, _+_}
 use lib.ListN.{length, drop}
@@ -44,7 +44,7 @@ runFrom (suc left) tape at nth p =
     (run (x-line nth) p))
     (run [] p)
 
--- "a tape of at most 32,768 bytes"
+-- the longest tape that is run
 abbrev pub longest : ℕ
 longest = 32768
 
