@@ -8,9 +8,10 @@ use Prim.Native.Nat.{_%_, _*_, _+_, _-_, _<_, _≤_, suc, zero, ℕ}
 use native.Mathlib.Omega.{arith}
 use lib.ListN.{length}
 use Rattle.heads.specs.Links.{followed, linkWord}
-use Rattle.inspect.proofs.Chains.{LinkedL, LinkedS, chain-yes, smalls-yes}
+use Rattle.inspect.proofs.Chains.{LinkedL, LinkedS}
 use Rattle.inspect.proofs.Guards.{guard-yes}
 use Rattle.inspect.proofs.MarkLists.{linked-from, listMarks, next-in, prev-in}
+use Rattle.inspect.proofs.Passing.{chain-yes, smalls-yes}
 use Rattle.inspect.proofs.Scanning.{Facts, Foot, Run, count-push, push, scan-yes}
 use Rattle.inspect.specs.Inspection.{cleared, false-tests, if-seen, inspect, rest-tests, scanned, size-tests}
 use Rattle.inspect.specs.Lists.{Left, chain, if-left, large-tests, lists, nextBin, nextLarge, nextSmall, small-tests}
@@ -108,7 +109,8 @@ module _ (bs : List ℕ) (s : State) (W : WellFormed s) (l : length bs ≡ end s
 
   rest-head : wordAt 4 bs r0 ≡ 4 * s .rest + 2
   rest-head =
-      head-reads bs s W l h r0 (s .rest) remainder (flagPast 1 (s .low)) (in-mid (s .low) (block (s .rest) remainder ∷ s .high) 168 1 r0 (block (s .rest) remainder) (flagPast 1 (s .low)) (inl (refl, refl, refl)))
+      head-reads bs s W l h r0 (s .rest) remainder (flagPast 1 (s .low))
+      (in-mid (s .low) (block (s .rest) remainder ∷ s .high) 168 1 r0 (block (s .rest) remainder) (flagPast 1 (s .low)) (inl (refl, refl, refl)))
       ∙ omega (arith, run-after bs 0 1 (s .low) runL)
 
   is-R : wordAt 4 bs 16 ≡ r0
@@ -125,9 +127,12 @@ module _ (bs : List ℕ) (s : State) (W : WellFormed s) (l : length bs ≡ end s
   unfolding scanned marks
   is-scanned =
       ap (λ (m : Scanned (List ℕ)). if-seen m stray (λ n ms sum. scan listMarks bs (suc (length bs)) 1 (length bs) (wordAt 4 bs 24) 1 n ms sum))
-      (scan-yes bs (s .low) (suc (wordAt 4 bs 16)) 0 (wordAt 4 bs 16) 168 1 0 [] 0 (omega arith) (omega arith) refl (omega (arith, is-R)) (sym is-R) runL factsL)
-      ∙ ap (λ (e : ℕ). scan listMarks bs (suc (length bs)) 1 (length bs) e 1 (length (push (s .low) 168 [])) (push (s .low) 168 []) (0 + freeSum (s .low))) is-E
-      ∙ scan-yes bs (s .high) (suc (length bs)) 1 (length bs) (r0 + s .rest) 1 (length (push (s .low) 168 [])) (push (s .low) 168 []) (0 + freeSum (s .low)) (omega arith) (omega arith) refl (omega (arith, ends)) (ends ∙ sym l) runH factsH
+      (scan-yes bs (s .low) (suc (wordAt 4 bs 16)) 0 (wordAt 4 bs 16) 168 1 0 [] 0 (omega arith) (omega arith) refl (omega (arith, is-R))
+      (sym is-R) runL factsL)
+      ∙ ap (λ (e : ℕ). scan listMarks bs (suc (length bs)) 1 (length bs) e 1 (length (push (s .low) 168 [])) (push (s .low) 168 [])
+      (0 + freeSum (s .low))) is-E
+      ∙ scan-yes bs (s .high) (suc (length bs)) 1 (length bs) (r0 + s .rest) 1 (length (push (s .low) 168 [])) (push (s .low) 168 [])
+      (0 + freeSum (s .low)) (omega arith) (omega arith) refl (omega (arith, ends)) (ends ∙ sym l) runH factsH
       ∙ ap (seen (length (push (s .high) (r0 + s .rest) (push (s .low) 168 []))) (push (s .high) (r0 + s .rest) (push (s .low) 168 []))) (omega arith)
 
   free-word : wordAt 4 bs 0 ≡ freeSum (s .low) + freeSum (s .high) + s .rest - 4
@@ -140,7 +145,14 @@ module _ (bs : List ℕ) (s : State) (W : WellFormed s) (l : length bs ≡ end s
   unfolding marks freeAt
   is-marked x =
       count-push bs (s .high) (r0 + s .rest) 1 (push (s .low) 168 []) x (omega arith) factsH
-      ∙ omega (arith, count-push bs (s .low) 168 1 [] x (omega arith) factsL, count-nil x, W .listed (sizeAt bs x) x, freeAt-append (s .low) (block (s .rest) remainder ∷ s .high) 168 (sizeAt bs x) x)
+      ∙ omega (
+        arith,
+        count-push bs (s .low) 168 1 [] x (omega arith) factsL,
+        count-nil x,
+        W .listed (sizeAt bs x) x,
+        freeAt-append (s .low)
+            (block (s .rest) remainder ∷ s .high) 168 (sizeAt bs x) x,
+      )
 
   -- ---- the bins
   sizes : (z x : ℕ) → 1 ≤ count x (s .bins z) → (sizeAt bs x ≡ z) × (8 ≤ z) × (z % 8 ≡ 0) × (z ≤ n)
@@ -168,7 +180,8 @@ module _ (bs : List ℕ) (s : State) (W : WellFormed s) (l : length bs ≡ end s
       let r = next-reads bs s W l h z q o in (
         i .0,
         (
-          reads bs s W l h (q + 4) (linkWord q v) (omega arith) (omega arith) (linkWord-small q v) (at-back s q z (f .0) (f .1) (omega arith) ∙ ap (link q) e),
+          reads bs s W l h (q + 4) (linkWord q v) (omega arith) (omega arith) (linkWord-small q v)
+              (at-back s q z (f .0) (f .1) (omega arith) ∙ ap (link q) e),
           (r .5 (omega arith) ∙ ap (linkWord q) (sym (on z q o (r .0) (r .2) (r .3) (r .5 (omega arith)))), tt),
         ),
       ))
@@ -191,12 +204,14 @@ module _ (bs : List ℕ) (s : State) (W : WellFormed s) (l : length bs ≡ end s
   at-false : (o : ℕ) → o < 72 → sheet s (96 + o) ≡ index (s .top) n (s .bins) (some 0) (s .top) 96 64 o
   unfolding sheet
   at-false o b =
-      if<-no (96 + o) 96 _ _ (omega arith) ∙ if<-yes (96 + o) 168 _ _ (omega arith) ∙ ap (index (s .top) n (s .bins) (some 0) (s .top) 96 64) (omega arith)
+      if<-no (96 + o) 96 _ _ (omega arith) ∙ if<-yes (96 + o) 168 _ _ (omega arith)
+      ∙ ap (index (s .top) n (s .bins) (some 0) (s .top) 96 64) (omega arith)
 
   start-rest : (x : ℕ) → count x marks ≡ if< 0 (sizeAt bs x) (count x (s .bins (sizeAt bs x))) 0
   start-rest x =
       by< 0 (sizeAt bs x) (λ k. is-marked x ∙ sym (if<-yes 0 (sizeAt bs x) _ _ k))
-      (λ k. is-marked x ∙ by= (count x (s .bins (sizeAt bs x))) 0 (λ e. e) (λ o. absurd (omega (arith, sizes (sizeAt bs x) x (omega arith) .1))) ∙ sym (if<-no 0 (sizeAt bs x) _ _ k))
+      (λ k. is-marked x ∙ by= (count x (s .bins (sizeAt bs x))) 0 (λ e. e) (λ o. absurd (omega (arith, sizes (sizeAt bs x) x (omega arith) .1)))
+      ∙ sym (if<-no 0 (sizeAt bs x) _ _ k))
 
   word1 : wordAt 4 bs 8 ≡ 96
   unfolding headerWord if=
@@ -255,12 +270,14 @@ module _ (bs : List ℕ) (s : State) (W : WellFormed s) (l : length bs ≡ end s
         (false-word s 1 (omega arith) (omega arith) (omega arith) ∙ ap (λ (v : ℕ). some (linkWord 96 v)) (above-is 64))
 
     chain-on : nextBin bs 96 ≡ next-bin 64
-    chain-on = ap (followed 96) chain-word ∙ followed-linkWord 96 (next-bin 64) (omega arith) (bound 64 .0) (bound 64 .1 96 (omega arith) (inl (omega arith)))
+    chain-on = ap (followed 96) chain-word
+        ∙ followed-linkWord 96 (next-bin 64) (omega arith) (bound 64 .0) (bound 64 .1 96 (omega arith) (inl (omega arith)))
 
     is-listed : lists listMarks bs (length marks) marks ≡ true
     unfolding lists
     is-listed =
-        let r = smalls-yes bs n (s .bins) sizes lkS lkL (λ z a b c. small-reads bs s W l h z a b c) 8 8 0 (length marks) marks refl refl refl refl start-rest in
+        let r = smalls-yes bs n (s .bins) sizes lkS lkL (λ z a b c. small-reads bs s W l h z a b c) 8 8 0
+        (length marks) marks refl refl refl refl start-rest in
         ap (λ (m : Left (List ℕ)). if-left m false (λ k ms'. chain listMarks bs (suc k) k ms' 64 (nextBin bs 96))) (r .2)
         ∙ ap (chain listMarks bs (suc (r .0)) (r .0) (r .1) 64) chain-on
         ∙ chain-yes bs n (s .bins) sizes lkS lkL tops (suc (r .0)) (r .0) (r .1) 64 (omega arith) (r .3) (omega arith) (r .4)
@@ -270,10 +287,24 @@ module _ (bs : List ℕ) (s : State) (W : WellFormed s) (l : length bs ≡ end s
     accepts =
         let rest8 = sized-past .0 in
         let e1 = is-R in let e2 = is-E in let e3 = ends in let f = W .fits in
-        guard-yes (size-tests bs) false _
-        (allowed-yes (length bs) (record { least = omega (arith, end-big bs s W l h); most = omega arith; eights = omega (arith, sized-eight (blocks s) (W .sized)) }), tt)
-        ∙ guard-yes (rest-tests bs) false _
-        (omega arith, (omega arith, (omega arith, (omega (arith, sized-eight (s .low) sized-low), (omega (arith, sized-eight (s .low) sized-low), (ap (wordAt 4 bs) is-R ∙ rest-head ∙ omega arith, tt))))))
+        guard-yes (size-tests bs) false _ (
+          allowed-yes (length bs) (record
+              { least = omega (arith, end-big bs s W l h); most = omega arith; eights = omega (arith, sized-eight (blocks s) (W .sized)) }),
+          tt,
+        )
+        ∙ guard-yes (rest-tests bs) false _ (
+          omega arith,
+          (
+            omega arith,
+            (
+              omega arith,
+              (
+                omega (arith, sized-eight (s .low) sized-low),
+                (omega (arith, sized-eight (s .low) sized-low), (ap (wordAt 4 bs) is-R ∙ rest-head ∙ omega arith, tt)),
+              ),
+            ),
+          ),
+        )
         ∙ guard-yes (false-tests bs) false _ (
           word1,
           (
@@ -286,13 +317,19 @@ module _ (bs : List ℕ) (s : State) (W : WellFormed s) (l : length bs ≡ end s
                   cleared-yes bs 12 8 4 header-zero,
                   (
                     cleared-yes bs 3 4 96 (λ i b. false-zero (4 * i) (omega arith) (omega arith) (omega arith) (omega arith)),
-                    (cleared-yes bs 12 4 112 (λ i b. ap (wordAt 4 bs) (omega arith) ∙ false-zero (16 + 4 * i) (omega arith) (omega arith) (omega arith) (omega arith)), tt),
+                    (
+                      cleared-yes bs 12 4 112 (λ i b. ap (wordAt 4 bs) (omega arith)
+                          ∙ false-zero (16 + 4 * i) (omega arith) (omega arith) (omega arith) (omega arith)),
+                      tt,
+                    ),
                   ),
                 ),
               ),
             ),
           ),
         )
-        ∙ ap (λ (m : Scanned (List ℕ)). if-seen m false (λ n ms sum. guard (same (wordAt 4 bs 0) (sum + (wordAt 4 bs 24 - wordAt 4 bs 16) - 4) ∷ []) false (lists listMarks bs n ms))) is-scanned
-        ∙ guard-yes (same (wordAt 4 bs 0) (freeSum (s .low) + freeSum (s .high) + (wordAt 4 bs 24 - wordAt 4 bs 16) - 4) ∷ []) false _ (free-word ∙ omega arith, tt)
+        ∙ ap (λ (m : Scanned (List ℕ)). if-seen m false
+        (λ n ms sum. guard (same (wordAt 4 bs 0) (sum + (wordAt 4 bs 24 - wordAt 4 bs 16) - 4) ∷ []) false (lists listMarks bs n ms))) is-scanned
+        ∙ guard-yes (same (wordAt 4 bs 0) (freeSum (s .low) + freeSum (s .high) + (wordAt 4 bs 24 - wordAt 4 bs 16) - 4) ∷ []) false _
+        (free-word ∙ omega arith, tt)
         ∙ is-listed

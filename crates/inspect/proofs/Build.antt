@@ -78,7 +78,8 @@ cleared-inv bs (suc k) st a h i l =
     go (suc i) l ih e = ap (wordAt 4 bs) (omega arith) ∙ ih i (omega arith)
 
 module _ (bs : List ℕ) (by : Bytes bs) (al : Allowed (length bs)) (rt : All (rest-tests bs)) (xs ys : List Block)
-    (rL : Run bs 0 1 xs) (fL : Facts bs xs 168 1) (tL : 168 + total xs ≡ R bs) (rH : Run bs 1 1 ys) (fH : Facts bs ys (E bs) 1) (tH : E bs + total ys ≡ length bs) where
+    (rL : Run bs 0 1 xs) (fL : Facts bs xs 168 1) (tL : 168 + total xs ≡ R bs) (rH : Run bs 1 1 ys) (fH : Facts bs ys (E bs) 1)
+    (tH : E bs + total ys ≡ length bs) where
   abbrev rest : ℕ
   rest = E bs - R bs
 
@@ -97,7 +98,8 @@ module _ (bs : List ℕ) (by : Bytes bs) (al : Allowed (length bs)) (rt : All (r
       kind : Block → Kind
       kind (block z k) = k
 
-      go : In xs 168 1 q (block z k) P ⊎ In (block rest remainder ∷ ys) (168 + total xs) (flagPast 1 xs) q (block z k) P → (wordAt 4 bs q ≡ headWord z k P) × Foot bs q z k P
+      go : In xs 168 1 q (block z k) P ⊎ In (block rest remainder ∷ ys) (168 + total xs) (flagPast 1 xs) q (block z k) P
+          → (wordAt 4 bs q ≡ headWord z k P) × Foot bs q z k P
       go (inl i) = fL q z k P i
       go (inr (inl i)) =
           let a : z ≡ rest = ap size (i .1) in
@@ -107,7 +109,8 @@ module _ (bs : List ℕ) (by : Bytes bs) (al : Allowed (length bs)) (rt : All (r
       go (inr (inr i)) = fH q z k P (subst (λ (p : ℕ). In ys p 1 q (block z k) P) (omega (arith, rt .1 .0)) i)
 
   sized : Sized bl
-  sized = sized-append xs (block rest remainder ∷ ys) (run-sized bs 0 1 xs rL) ((omega (arith, rt .1 .0), omega (arith, rt .1 .0, rt .1 .1 .1 .0, rt .1 .1 .1 .1 .0)), run-sized bs 1 1 ys rH)
+  sized = sized-append xs (block rest remainder ∷ ys) (run-sized bs 0 1 xs rL)
+      ((omega (arith, rt .1 .0), omega (arith, rt .1 .0, rt .1 .1 .1 .0, rt .1 .1 .1 .1 .0)), run-sized bs 1 1 ys rH)
 
   in-sz : (q z P : ℕ) → In bl 168 1 q (block z free) P → sizeAt bs q ≡ z
   in-sz q z P i = omega (arith, facts q z free P i .0, in-flag bl 168 1 q (block z free) P (omega arith) i)
@@ -131,7 +134,8 @@ module _ (bs : List ℕ) (by : Bytes bs) (al : Allowed (length bs)) (rt : All (r
       past = omega (arith, rt .1 .0)
 
   pub sizes : (x : ℕ) → 1 ≤ count x marks → sizeAt bs x ≤ nn
-  sizes x o = let r = freeAt-in bl 168 1 (sizeAt bs x) x (omega (arith, is-marked x)) in omega (arith, in-high bl 168 1 x (block (sizeAt bs x) free) (r .0) (r .1))
+  sizes x o = let r = freeAt-in bl 168 1 (sizeAt bs x) x (omega (arith, is-marked x)) in
+      omega (arith, in-high bl 168 1 x (block (sizeAt bs x) free) (r .0) (r .1))
 
   module _ (t : ℕ) (lay : (t ≡ 1) ⊎ (t ≡ 13)) (t13 : t ≤ 13) (fw : wordAt 4 bs 0 ≡ freeSum xs + freeSum ys + rest - 4) (b : ℕ → List ℕ)
       (lkS : (u : ℕ) → u ≤ 64 → LinkedS bs u (b u)) (lkL : (u : ℕ) → 64 < u → LinkedL bs u (b u))
@@ -155,7 +159,15 @@ module _ (bs : List ℕ) (by : Bytes bs) (al : Allowed (length bs)) (rt : All (r
         (λ o. absurd (ne (in-bin y q (omega arith)))))
 
     wf : WellFormed s
-    wf = record { layout = lay; low-ok = run-low bs xs rL; high-ok = run-high bs ys rH; sized = sized; fits = omega (arith, is-end, al .most); listed = listed }
+    wf = record {
+      layout = lay;
+      low-ok = run-low bs xs rL;
+      high-ok = run-high bs ys rH;
+      sized = sized;
+      fits = omega
+          (arith, is-end, al .most);
+      listed = listed;
+    }
 
     -- ---- each word
     ok : (a : ℕ) (o o' : Option ℕ) → o ≡ o' → Ok bs a o' → Ok bs a o
@@ -166,7 +178,8 @@ module _ (bs : List ℕ) (by : Bytes bs) (al : Allowed (length bs)) (rt : All (r
     small-ok q z P o i l =
         by= o 4
         (λ e. ok (q + o) _ _ (if=-yes o 4 _ _ e) (ok-from bs (q + o) (nextIn (b z) q)
-        (λ v h. ap (λ (k : ℕ). wordAt 4 bs (q + k)) e ∙ linked-next (small-tests bs z) (nextSmall bs) (b z) 0 q v (lkS z (omega (arith, in-sized8))) h)))
+        (λ v h. ap (λ (k : ℕ). wordAt 4 bs (q + k)) e
+        ∙ linked-next (small-tests bs z) (nextSmall bs) (b z) 0 q v (lkS z (omega (arith, in-sized8))) h)))
         (λ e. ok (q + o) _ none (if=-no o 4 _ _ e) tt)
       where
         in-sized8 : z % 8 ≡ 0
@@ -177,7 +190,8 @@ module _ (bs : List ℕ) (by : Bytes bs) (al : Allowed (length bs)) (rt : All (r
     index-ok q z o l nz f o4 =
         let p = tops z (omega arith) (λ e. nz (sym f ∙ e)) in
         let ht = height-le t z in
-        by= o 12 (λ e. ok (q + o) _ _ (if=-yes o 12 _ _ e) (ap (λ (k : ℕ). wordAt 4 bs (q + k)) e ∙ ap (λ (k : ℕ). wordAt 4 bs (k + 12)) (sym f) ∙ p .0))
+        by= o 12 (λ e. ok (q + o) _ _ (if=-yes o 12 _ _ e)
+        (ap (λ (k : ℕ). wordAt 4 bs (q + k)) e ∙ ap (λ (k : ℕ). wordAt 4 bs (k + 12)) (sym f) ∙ p .0))
         (λ n12. by< o (68 - 4 * height t z) (λ c. ok (q + o) _ none (if=-no o 12 _ _ n12 ∙ if<-yes o _ _ _ c) tt)
         (λ c. by< 64 o (λ d. ok (q + o) _ none (if=-no o 12 _ _ n12 ∙ if<-no o _ _ _ c ∙ if<-yes 64 o _ _ d) tt)
         (λ d. let e : q + o ≡ q + (68 - 4 * ((68 - o) / 4)) = omega arith in
@@ -193,7 +207,8 @@ module _ (bs : List ℕ) (by : Bytes bs) (al : Allowed (length bs)) (rt : All (r
         (λ n4. by= o 8 (λ e. ok (q + o) _ _ (if=-no o 4 _ _ n4 ∙ if=-yes o 8 _ _ e) (ap-link o e (nextIn (b z) q)
         (λ v h. ap (λ (k : ℕ). wordAt 4 bs (q + k)) e ∙ eight v h)))
         (λ n8. by= o (z - 4)
-        (λ e. ok (q + o) _ _ (if=-no o 4 _ _ n4 ∙ if=-no o 8 _ _ n8 ∙ if=-yes o (z - 4) _ _ e) (ap (λ (k : ℕ). wordAt 4 bs (q + k)) e ∙ facts q z free P i .1 l))
+        (λ e. ok (q + o) _ _ (if=-no o 4 _ _ n4 ∙ if=-no o 8 _ _ n8 ∙ if=-yes o (z - 4) _ _ e)
+        (ap (λ (k : ℕ). wordAt 4 bs (q + k)) e ∙ facts q z free P i .1 l))
         (λ nf. by= (first (b z)) q
         (λ f. ok (q + o) _ _ (if=-no o 4 _ _ n4 ∙ if=-no o 8 _ _ n8 ∙ if=-no o (z - 4) _ _ nf ∙ if=-yes (first (b z)) q _ _ f)
         (index-ok q z o l (omega (arith, in-low bl 168 1 q (block z free) P i)) f o4))
@@ -216,7 +231,8 @@ module _ (bs : List ℕ) (by : Bytes bs) (al : Allowed (length bs)) (rt : All (r
 
     block-ok : (q z : ℕ) (k : Kind) (P o : ℕ) → In bl 168 1 q (block z k) P → o % 4 ≡ 0 → Ok bs (q + o) (blockWord t nn b q (block z k) P o)
     block-ok q z k P o i o4 =
-        by= o 0 (λ e. ok (q + o) _ _ (if=-yes o 0 _ _ e) (ap (wordAt 4 bs) (omega arith) ∙ facts q z k P i .0)) (λ n. ok (q + o) _ _ (if=-no o 0 _ _ n) (rest-ok q z k P o i o4))
+        by= o 0 (λ e. ok (q + o) _ _ (if=-yes o 0 _ _ e) (ap (wordAt 4 bs) (omega arith) ∙ facts q z k P i .0))
+        (λ n. ok (q + o) _ _ (if=-no o 0 _ _ n) (rest-ok q z k P o i o4))
 
     walk-ok : (a : ℕ) → 168 ≤ a → a % 4 ≡ 0 → Ok bs a (walk (blockWord t nn b) bl 168 1 a)
     walk-ok a l a4 =
@@ -224,7 +240,8 @@ module _ (bs : List ℕ) (by : Bytes bs) (al : Allowed (length bs)) (rt : All (r
         (λ q c P i m m'. at q c P i m)
       where
         at : (q : ℕ) (c : Block) (P : ℕ) → In bl 168 1 q c P → q ≤ a → Ok bs a (blockWord t nn b q c P (a - q))
-        at q (block z k) P i m = subst (λ (v : ℕ). Ok bs v (blockWord t nn b q (block z k) P (a - q))) (omega arith) (block-ok q z k P (a - q) i (omega (arith, in-aligned bl 168 1 q (block z k) P sized refl i)))
+        at q (block z k) P i m = subst (λ (v : ℕ). Ok bs v (blockWord t nn b q (block z k) P (a - q))) (omega arith)
+            (block-ok q z k P (a - q) i (omega (arith, in-aligned bl 168 1 q (block z k) P sized refl i)))
 
     false-ok : (o : ℕ) → o < 72 → o % 4 ≡ 0 → Ok bs (96 + o) (index t nn b (some 0) t 96 64 o)
     unfolding index
@@ -233,15 +250,18 @@ module _ (bs : List ℕ) (by : Bytes bs) (al : Allowed (length bs)) (rt : All (r
         (λ n12. by< o (68 - 4 * t) (λ c. ok (96 + o) _ _ (if=-no o 12 _ _ n12 ∙ if<-yes o _ _ _ c) (fz o l al n12 (inl c)))
         (λ c. by< 64 o (λ d. ok (96 + o) _ _ (if=-no o 12 _ _ n12 ∙ if<-no o _ _ _ c ∙ if<-yes 64 o _ _ d) (fz o l al n12 (inr d)))
         (λ d. let e : 96 + o ≡ 96 + (68 - 4 * ((68 - o) / 4)) = omega arith in
-        ok (96 + o) _ _ (if=-no o 12 _ _ n12 ∙ if<-no o _ _ _ c ∙ if<-no 64 o _ _ d) (ap (wordAt 4 bs) e ∙ fj ((68 - o) / 4) (omega arith) (omega arith)))))
+        ok (96 + o) _ _ (if=-no o 12 _ _ n12 ∙ if<-no o _ _ _ c ∙ if<-no 64 o _ _ d)
+        (ap (wordAt 4 bs) e ∙ fj ((68 - o) / 4) (omega arith) (omega arith)))))
 
     word-ok : (w : ℕ) → w < 12 → wordAt 4 bs (8 * w) ≡ headerWord s w
     unfolding headerWord
     word-ok w l =
-        by= w 0 (λ e. ap (λ (k : ℕ). wordAt 4 bs (8 * k)) e ∙ fw ∙ omega (arith, freeSum-append xs (block rest remainder ∷ ys)) ∙ sym (if=-yes w 0 _ _ e))
+        by= w 0 (λ e. ap (λ (k : ℕ). wordAt 4 bs (8 * k)) e ∙ fw ∙ omega (arith, freeSum-append xs (block rest remainder ∷ ys))
+        ∙ sym (if=-yes w 0 _ _ e))
         (λ n0. by= w 1 (λ e. ap (λ (k : ℕ). wordAt 4 bs (8 * k)) e ∙ w8 ∙ sym (if=-no w 0 _ _ n0 ∙ if=-yes w 1 _ _ e))
         (λ n1. by= w 2 (λ e. ap (λ (k : ℕ). wordAt 4 bs (8 * k)) e ∙ sym tL ∙ sym (if=-no w 0 _ _ n0 ∙ if=-no w 1 _ _ n1 ∙ if=-yes w 2 _ _ e))
-        (λ n2. by= w 3 (λ e. ap (λ (k : ℕ). wordAt 4 bs (8 * k)) e ∙ omega (arith, rt .1 .0) ∙ sym (if=-no w 0 _ _ n0 ∙ if=-no w 1 _ _ n1 ∙ if=-no w 2 _ _ n2 ∙ if=-yes w 3 _ _ e))
+        (λ n2. by= w 3 (λ e. ap (λ (k : ℕ). wordAt 4 bs (8 * k)) e ∙ omega (arith, rt .1 .0)
+        ∙ sym (if=-no w 0 _ _ n0 ∙ if=-no w 1 _ _ n1 ∙ if=-no w 2 _ _ n2 ∙ if=-yes w 3 _ _ e))
         (λ n3. ap (wordAt 4 bs) (omega arith) ∙ sym (fs (8 * (w - 3)) (omega arith) (omega arith) (omega arith))
         ∙ sym (if=-no w 0 _ _ n0 ∙ if=-no w 1 _ _ n1 ∙ if=-no w 2 _ _ n2 ∙ if=-no w 3 _ _ n3)))))
 
@@ -253,7 +273,8 @@ module _ (bs : List ℕ) (by : Bytes bs) (al : Allowed (length bs)) (rt : All (r
         (λ e. ok a _ _ (if<-yes a 96 _ _ l ∙ if=-yes (a % 8) 0 _ _ e) (ap (wordAt 4 bs) (omega arith) ∙ word-ok (a / 8) (omega arith)))
         (λ e. ok a _ _ (if<-yes a 96 _ _ l ∙ if=-no (a % 8) 0 _ _ e) (ap (wordAt 4 bs) (omega arith) ∙ hz (a / 8) (omega arith))))
         (λ l. by< a 168
-        (λ m. ok a _ _ (if<-no a 96 _ _ l ∙ if<-yes a 168 _ _ m) (subst (λ (v : ℕ). Ok bs v (index t nn b (some 0) t 96 64 (a - 96))) (omega arith) (false-ok (a - 96) (omega arith) (omega arith))))
+        (λ m. ok a _ _ (if<-no a 96 _ _ l ∙ if<-yes a 168 _ _ m)
+        (subst (λ (v : ℕ). Ok bs v (index t nn b (some 0) t 96 64 (a - 96))) (omega arith) (false-ok (a - 96) (omega arith) (omega arith))))
         (λ m. ok a _ _ (if<-no a 96 _ _ l ∙ if<-no a 168 _ _ m) (walk-ok a m al)))
 
     held-by : Holds (sheet s) bs

@@ -1,31 +1,31 @@
--- The bins that the inspection followed, both ways: what it has read, and that it passes what is there.
+-- The bins that the inspection followed: what it has read.
 use mathlib.Core.Bool.{false, true}
 use mathlib.Core.List.{List, [], _∷_}
 use mathlib.Core.Logic.{_≢_}
-use mathlib.Core.Option.{none}
 use mathlib.Core.Path.{_∙_, _≡_, ap, refl, subst, sym}
 use Prim.Native.Nat.{_%_, _*_, _+_, _<_, _≤_, suc, zero, ℕ}
 use native.Mathlib.Omega.{arith}
 use lib.ListN.{length}
 use Rattle.heads.specs.Links.{linkWord}
-use Rattle.inspect.proofs.Guards.{guard-inv, guard-yes}
-use Rattle.inspect.proofs.MarkLists.{Linked, follow-inv, follow-yes, linked-empty, linked-tests, listMarks, lost-left}
+use Rattle.inspect.proofs.Guards.{guard-inv}
+use Rattle.inspect.proofs.MarkLists.{Linked, follow-inv, linked-tests, listMarks, lost-left}
 use Rattle.inspect.specs.Lists.{Left, chain, first-tests, follow, if-left, large-tests, left, lost, nextBin, nextLarge, nextSmall, small-tests, smalls}
 use Rattle.inspect.specs.Runs.{sizeAt}
 use Rattle.inspect.specs.Tests.{same}
-use Rattle.paper.proofs.Bins.{count-nil, first-count, nil-of}
+use Rattle.paper.proofs.Bins.{count-nil, first-count}
 use Rattle.paper.proofs.Listed.{rebin, rebin-other, rebin-same}
-use Rattle.paper.proofs.Seek.{seek-cong, seek-gap, seek-none, seek-spec, seek-zero}
+use Rattle.paper.proofs.Seek.{seek-cong, seek-gap, seek-zero}
 use Rattle.paper.specs.Bins.{count, first, seek}
 use Rattle.paper.specs.Governed.{above}
-use Rattle.words.specs.Choice.{by<, by=, if<, if<-no, if<-yes, if=-no, if=-yes}
+use Rattle.words.specs.Choice.{by<, by=, if=-no, if=-yes}
 use Rattle.words.specs.Words.{wordAt}
 
 pub false-true : false ≢ true
 false-true e = let z : _≡_ {A = ℕ} 0 1 = cc in omega arith
 
 -- a run that did not fail: where it came to
-pub inv-left : {M A : Type 0} (m : Left M) (bad y : A) (f : ℕ → M → A) → bad ≢ y → if-left m bad f ≡ y → (k : ℕ) × (ms : M) × (m ≡ left k ms) × (f k ms ≡ y)
+pub inv-left : {M A : Type 0} (m : Left M) (bad y : A) (f : ℕ → M → A) → bad ≢ y → if-left m bad f ≡ y
+    → (k : ℕ) × (ms : M) × (m ≡ left k ms) × (f k ms ≡ y)
 inv-left lost bad y f n h = absurd (n h)
 inv-left (left k ms) bad y f n h = (k, ms, refl, h)
 
@@ -42,7 +42,7 @@ no-length [] h = refl
 no-length (x ∷ ms) h = absurd (omega arith)
 
 module _ (bs : List ℕ) where
-  -- of the marks ms, those past size y are in the bins
+  -- the list of the bin of size z, from its first block on
   abbrev pub LinkedL : ℕ → List ℕ → Type 0
   LinkedL z l = Linked (large-tests bs z) (nextLarge bs) 0 l
 
@@ -57,7 +57,8 @@ module _ (bs : List ℕ) where
 
   module _ (n : ℕ) where
     abbrev pub Tops : (ℕ → List ℕ) → ℕ → Type 0
-    Tops b z = first (b z) ≢ 0 → (wordAt 4 bs (first (b z) + 12) ≡ 1) × (wordAt 4 bs (first (b z) + 64) ≡ linkWord (first (b z)) (seek (λ (u : ℕ). first (b u)) n (suc z)))
+    Tops b z = first (b z) ≢ 0 → (wordAt 4 bs (first (b z) + 12) ≡ 1)
+        × (wordAt 4 bs (first (b z) + 64) ≡ linkWord (first (b z)) (seek (λ (u : ℕ). first (b u)) n (suc z)))
 
     pub record Binned (y f : ℕ) (ms : List ℕ) : Type 0 where
       pub bin : ℕ → List ℕ
@@ -68,7 +69,8 @@ module _ (bs : List ℕ) where
       pub all : (x : ℕ) → count x ms ≡ count x (bin (sizeAt bs x))
 
     module _ (y f z : ℕ) (ms ms' l : List ℕ) (fl : first l ≡ f) (nf : f ≢ 0) (yz : y < z) (zn : z ≤ n) (lk : LinkedL z l)
-        (t12 : wordAt 4 bs (f + 12) ≡ 1) (t64 : wordAt 4 bs (f + 64) ≡ linkWord f (nextBin bs f)) (sp : (x : ℕ) → count x ms ≡ count x l + count x ms') (B : Binned z (nextBin bs f) ms') where
+        (t12 : wordAt 4 bs (f + 12) ≡ 1) (t64 : wordAt 4 bs (f + 64) ≡ linkWord f (nextBin bs f))
+        (sp : (x : ℕ) → count x ms ≡ count x l + count x ms') (B : Binned z (nextBin bs f) ms') where
       unfoldable b : ℕ → List ℕ
       b = rebin (B .bin) z l
 
@@ -88,7 +90,8 @@ module _ (bs : List ℕ) where
           by= u z
           (λ e. let q : first (b u) ≡ f = ap (λ (v : ℕ). first (b v)) e ∙ ap first b-same ∙ fl in (
             ap (λ (v : ℕ). wordAt 4 bs (v + 12)) q ∙ t12,
-            ap (λ (v : ℕ). wordAt 4 bs (v + 64)) q ∙ t64 ∙ ap (linkWord f) (B .begins ∙ past z (omega arith)) ∙ ap (λ (v : ℕ). linkWord f (seek (λ (w : ℕ). first (b w)) n (suc v))) (sym e)
+            ap (λ (v : ℕ). wordAt 4 bs (v + 64)) q ∙ t64 ∙ ap (linkWord f) (B .begins ∙ past z (omega arith))
+                ∙ ap (λ (v : ℕ). linkWord f (seek (λ (w : ℕ). first (b w)) n (suc v))) (sym e)
                 ∙ ap (λ (v : ℕ). linkWord v (seek (λ (w : ℕ). first (b w)) n (suc u))) (sym q),
           ))
           (λ ne. by< u z
@@ -96,7 +99,8 @@ module _ (bs : List ℕ) where
           (λ ge. let q : first (b u) ≡ first (B .bin u) = ap first (b-other u ne) in
           let t = B .tops u (λ o. nz (q ∙ o)) in (
             ap (λ (v : ℕ). wordAt 4 bs (v + 12)) q ∙ t .0,
-            ap (λ (v : ℕ). wordAt 4 bs (v + 64)) q ∙ t .1 ∙ ap (linkWord (first (B .bin u))) (past u ge) ∙ ap (λ (v : ℕ). linkWord v (seek (λ (w : ℕ). first (b w)) n (suc u))) (sym q),
+            ap (λ (v : ℕ). wordAt 4 bs (v + 64)) q ∙ t .1 ∙ ap (linkWord (first (B .bin u))) (past u ge)
+                ∙ ap (λ (v : ℕ). linkWord v (seek (λ (w : ℕ). first (b w)) n (suc u))) (sym q),
           )))
 
       cons-begins : f ≡ seek (λ (u : ℕ). first (b u)) n (suc y)
@@ -108,7 +112,17 @@ module _ (bs : List ℕ) where
       cons-all : (x : ℕ) → count x ms ≡ count x (b (sizeAt bs x))
       cons-all x =
           by= (sizeAt bs x) z
-          (λ e. omega (arith, sp x, B .all x, ap (λ (v : ℕ). count x (b v)) e, ap (count x) b-same, ap (λ (v : ℕ). count x (B .bin v)) e, ap (count x) (B .below z (omega arith)), count-nil x))
+          (λ e. omega (
+            arith,
+            sp x,
+            B .all x,
+            ap (λ (v : ℕ). count x (b v)) e,
+            ap (count x) b-same,
+            ap (λ (v : ℕ). count x (B .bin v)) e,
+            ap (count x)
+                (B .below z (omega arith)),
+            count-nil x,
+          ))
           (λ ne. let o : count x l ≡ 0 = by= (count x l) 0 (λ e. e) (λ k. absurd (ne (large-sz z l x lk (omega arith)))) in
           omega (arith, sp x, B .all x, ap (count x) (b-other (sizeAt bs x) ne)))
 
@@ -116,13 +130,15 @@ module _ (bs : List ℕ) where
       cons-binned = record {
         bin = b;
         below = λ u h. b-other u (omega arith) ∙ B .below u (omega arith);
-        linked = λ u. by= u z (λ e. subst (λ (v : ℕ). LinkedL v (b v)) (sym e) (subst (LinkedL z) (sym b-same) lk)) (λ ne. subst (LinkedL u) (sym (b-other u ne)) (B .linked u));
+        linked = λ u. by= u z (λ e. subst (λ (v : ℕ). LinkedL v (b v)) (sym e) (subst (LinkedL z) (sym b-same) lk))
+            (λ ne. subst (LinkedL u) (sym (b-other u ne)) (B .linked u));
         tops = cons-tops;
         begins = cons-begins;
         all = cons-all;
       }
 
-    pub chain-inv : (c k : ℕ) (ms : List ℕ) (y f : ℕ) → k ≡ length ms → ((x : ℕ) → 1 ≤ count x ms → sizeAt bs x ≤ n) → chain listMarks bs c k ms y f ≡ true → Binned y f ms
+    pub chain-inv : (c k : ℕ) (ms : List ℕ) (y f : ℕ) → k ≡ length ms → ((x : ℕ) → 1 ≤ count x ms → sizeAt bs x ≤ n)
+        → chain listMarks bs c k ms y f ≡ true → Binned y f ms
     unfolding chain first
     chain-inv zero k ms y f e i h = absurd (false-true h)
     chain-inv (suc c) k ms y f e i h =
@@ -138,7 +154,8 @@ module _ (bs : List ℕ) where
           all = λ x. ap (count x) m;
         })
         (λ z. let r = guard-inv (first-tests bs y f) false _ true false-true (sym (if=-no f 0 _ _ z) ∙ h) in
-        let s = inv-left (follow listMarks (large-tests bs (sizeAt bs f)) (nextLarge bs) k ms 0 f) false true (λ k' ms'. chain listMarks bs c k' ms' (sizeAt bs f) (nextBin bs f)) false-true (r .1) in
+        let s = inv-left (follow listMarks (large-tests bs (sizeAt bs f)) (nextLarge bs) k ms 0 f) false true
+        (λ k' ms'. chain listMarks bs c k' ms' (sizeAt bs f) (nextBin bs f)) false-true (r .1) in
         let l = follow-inv (large-tests bs (sizeAt bs f)) (nextLarge bs) k ms 0 f (s .0) (s .1) e (s .2) in
         let B = chain-inv c (s .0) (s .1) (sizeAt bs f) (nextBin bs f) (l .4) (λ x o. i x (omega (arith, l .3 x))) (s .3) in
         let in-l : 1 ≤ count f (l .0) = first-count (l .0) f (l .1) z in
@@ -171,16 +188,28 @@ module _ (bs : List ℕ) where
       bin = c;
       above = λ u h. c-other u (omega arith) ∙ B .above u h;
       below = λ u h h'. c-other u (omega arith) ∙ B .below u (omega arith) h';
-      linked = λ u h. by= u z (λ e. subst (λ (v : ℕ). LinkedS v (c v)) (sym e) (subst (LinkedS z) (sym c-same) lk)) (λ ne. subst (LinkedS u) (sym (c-other u ne)) (B .linked u h));
+      linked = λ u h. by= u z (λ e. subst (λ (v : ℕ). LinkedS v (c v)) (sym e) (subst (LinkedS z) (sym c-same) lk))
+          (λ ne. subst (LinkedS u) (sym (c-other u ne)) (B .linked u h));
       firsts = λ u h h' u8. by= u z (λ e. ap (λ (v : ℕ). first (c v)) e ∙ ap first c-same ∙ fl ∙ ap (λ (v : ℕ). wordAt 4 bs (v + 24)) (sym e))
           (λ ne. ap first (c-other u ne) ∙ B .firsts u (omega arith) h' u8);
       all = λ x. by= (sizeAt bs x) z
-          (λ e. omega (arith, sp x, B .all x, ap (λ (v : ℕ). count x (c v)) e, ap (count x) c-same, ap (λ (v : ℕ). count x (B .bin v)) e, ap (count x) (B .below z (omega arith) z64), count-nil x))
+          (λ e. omega (
+            arith,
+            sp x,
+            B .all x,
+            ap (λ (v : ℕ). count x (c v)) e,
+            ap (count x) c-same,
+            ap (λ (v : ℕ). count x (B .bin v)) e,
+            ap (count x)
+                (B .below z (omega arith) z64),
+            count-nil x,
+          ))
           (λ ne. let o : count x l ≡ 0 = by= (count x l) 0 (λ e. e) (λ k. absurd (ne (small-sz z l x lk (omega arith)))) in
           omega (arith, sp x, B .all x, ap (count x) (c-other (sizeAt bs x) ne)));
     }
 
-  pub smalls-inv : (c z k : ℕ) (ms : List ℕ) (k' : ℕ) (ms' : List ℕ) → z + 8 * c ≡ 72 → z % 8 ≡ 0 → k ≡ length ms → smalls listMarks bs c z k ms ≡ left k' ms'
+  pub smalls-inv : (c z k : ℕ) (ms : List ℕ) (k' : ℕ) (ms' : List ℕ) → z + 8 * c ≡ 72 → z % 8 ≡ 0 → k ≡ length ms
+      → smalls listMarks bs c z k ms ≡ left k' ms'
       → (k' ≡ length ms') × ((x : ℕ) → count x ms' ≤ count x ms)
       × ((b : ℕ → List ℕ) → ((u : ℕ) → u ≤ 64 → b u ≡ []) → ((x : ℕ) → count x ms' ≡ count x (b (sizeAt bs x))) → Smalls b z ms)
   unfolding smalls
@@ -198,92 +227,12 @@ module _ (bs : List ℕ) where
         },
       )
   smalls-inv (suc c) z k ms k' ms' e z8 i h =
-      let s = inv-left (follow listMarks (small-tests bs z) (nextSmall bs) k ms 0 (wordAt 4 bs (z + 24))) lost (left k' ms') (λ k₁ ms₁. smalls listMarks bs c (z + 8) k₁ ms₁) (lost-left k' ms') h in
+      let s = inv-left (follow listMarks (small-tests bs z) (nextSmall bs) k ms 0 (wordAt 4 bs (z + 24))) lost (left k' ms')
+      (λ k₁ ms₁. smalls listMarks bs c (z + 8) k₁ ms₁) (lost-left k' ms') h in
       let l = follow-inv (small-tests bs z) (nextSmall bs) k ms 0 (wordAt 4 bs (z + 24)) (s .0) (s .1) i (s .2) in
-      let r = smalls-inv c (z + 8) (s .0) (s .1) k' ms' (omega arith) (omega arith) (l .4) (s .3) in
-      (r .0, (λ x. omega (arith, r .1 x, l .3 x)), λ b nil all. cons-smalls b z ms (s .1) (l .0) z8 (omega arith) (l .1) (l .2) (l .3) (r .2 b nil all))
-
-  -- ---- the other way: what is there passes
-  module _ (n : ℕ) (bins : ℕ → List ℕ)
-      (sizes : (z x : ℕ) → 1 ≤ count x (bins z) → (sizeAt bs x ≡ z) × (8 ≤ z) × (z % 8 ≡ 0) × (z ≤ n))
-      (lkS : (z : ℕ) → z ≤ 64 → LinkedS z (bins z)) (lkL : (z : ℕ) → 64 < z → LinkedL z (bins z)) where
-    -- the marks that are left are those of the bins past size y
-    abbrev pub Rest : ℕ → List ℕ → Type 0
-    Rest y ms = (x : ℕ) → count x ms ≡ if< y (sizeAt bs x) (count x (bins (sizeAt bs x))) 0
-
-    pub rest-le : (y z : ℕ) (ms : List ℕ) (x : ℕ) → Rest y ms → y < z → count x (bins z) ≤ count x ms
-    rest-le y z ms x r l =
-        by= (count x (bins z)) 0 (λ e. omega arith)
-        (λ o. let s : sizeAt bs x ≡ z = sizes z x (omega arith) .0 in let m : y < sizeAt bs x = omega arith in
-        omega (arith, r x, if<-yes {A = ℕ} y (sizeAt bs x) (count x (bins (sizeAt bs x))) 0 m, ap (λ (v : ℕ). count x (bins v)) s))
-
-    pub advance : (y z : ℕ) (ms ms' : List ℕ) → Rest y ms → y < z → ((u x : ℕ) → y < u → u < z → count x (bins u) ≡ 0) → ((x : ℕ) → count x ms ≡ count x (bins z) + count x ms') → Rest z ms'
-    advance y z ms ms' r l gap sp x =
-        by< z (sizeAt bs x)
-        (λ h. let m : y < sizeAt bs x = omega arith in
-        let o : count x (bins z) ≡ 0 = by= (count x (bins z)) 0 (λ e. e) (λ k. absurd (omega (arith, sizes z x (omega arith) .0))) in
-        omega (arith, r x, sp x, if<-yes {A = ℕ} y (sizeAt bs x) (count x (bins (sizeAt bs x))) 0 m, if<-yes {A = ℕ} z (sizeAt bs x) (count x (bins (sizeAt bs x))) 0 h))
-        (λ h. by< y (sizeAt bs x)
-        (λ m. by= (sizeAt bs x) z
-        (λ e. omega (arith, r x, sp x, if<-yes {A = ℕ} y (sizeAt bs x) (count x (bins (sizeAt bs x))) 0 m, if<-no {A = ℕ} z (sizeAt bs x) (count x (bins (sizeAt bs x))) 0 h, ap (λ (v : ℕ). count x (bins v)) e))
-        (λ ne. omega (arith, r x, sp x, if<-yes {A = ℕ} y (sizeAt bs x) (count x (bins (sizeAt bs x))) 0 m, if<-no {A = ℕ} z (sizeAt bs x) (count x (bins (sizeAt bs x))) 0 h, gap (sizeAt bs x) x m (omega arith))))
-        (λ m. omega (arith, r x, sp x, if<-no {A = ℕ} y (sizeAt bs x) (count x (bins (sizeAt bs x))) 0 m, if<-no {A = ℕ} z (sizeAt bs x) (count x (bins (sizeAt bs x))) 0 h)))
-
-    module _ (fs : (z : ℕ) → 8 ≤ z → z ≤ 64 → z % 8 ≡ 0 → wordAt 4 bs (z + 24) ≡ first (bins z)) where
-      pub smalls-yes : (c z y k : ℕ) (ms : List ℕ) → z + 8 * c ≡ 72 → z % 8 ≡ 0 → y + 8 ≡ z → k ≡ length ms → Rest y ms
-          → (k' : ℕ) × (ms' : List ℕ) × (smalls listMarks bs c z k ms ≡ left k' ms') × (k' ≡ length ms') × Rest 64 ms'
-      unfolding smalls
-      smalls-yes zero z y k ms e z8 yz i r = (k, ms, refl, i, subst (λ (v : ℕ). Rest v ms) (omega arith) r)
-      smalls-yes (suc c) z y k ms e z8 yz i r =
-          let f = follow-yes (small-tests bs z) (nextSmall bs) (bins z) k ms 0 i (lkS z (omega arith)) (λ x. rest-le y z ms x r (omega arith)) in
-          let gap : (u x : ℕ) → y < u → u < z → count x (bins u) ≡ 0 =
-          λ u x a b. by= (count x (bins u)) 0 (λ e. e) (λ k. absurd (omega (arith, sizes u x (omega arith) .1, sizes u x (omega arith) .2))) in
-          let n = smalls-yes c (z + 8) z (f .0) (f .1) (omega arith) (omega arith) refl (f .4) (advance y z ms (f .1) r (omega arith) gap (f .3)) in (
-            n .0,
-            n .1,
-            ap (λ (m : Left (List ℕ)). if-left m lost (λ k' ms'. smalls listMarks bs c (z + 8) k' ms')) (ap (follow listMarks (small-tests bs z) (nextSmall bs) k ms 0) (fs z (omega arith) (omega arith) z8) ∙ f .2) ∙ n .2,
-            n .3,
-            n .4,
-          )
-
-    module _ (tops : (z : ℕ) → 64 < z → first (bins z) ≢ 0 → (wordAt 4 bs (first (bins z) + 12) ≡ 1)
-        × (wordAt 4 bs (first (bins z) + 64) ≡ linkWord (first (bins z)) (seek (λ (u : ℕ). first (bins u)) n (suc z))) × (nextBin bs (first (bins z)) ≡ seek (λ (u : ℕ). first (bins u)) n (suc z))) where
-      abbrev pub after : ℕ → ℕ
-      after y = seek (λ (u : ℕ). first (bins u)) n (suc y)
-
-      none-left : (y : ℕ) (ms : List ℕ) → 64 ≤ y → Rest y ms → after y ≡ 0 → (x : ℕ) → count x ms ≡ 0
-      none-left y ms b r e x =
-          by< y (sizeAt bs x)
-          (λ l. by= (count x (bins (sizeAt bs x))) 0 (λ o. r x ∙ if<-yes y (sizeAt bs x) _ _ l ∙ o)
-          (λ o. let nil = linked-empty (large-tests bs (sizeAt bs x)) (nextLarge bs) (bins (sizeAt bs x)) 0 (lkL (sizeAt bs x) (omega arith))
-          (seek-none (λ (u : ℕ). first (bins u)) n (suc y) e (sizeAt bs x) (omega arith) (omega (arith, sizes (sizeAt bs x) x (omega arith) .3))) in
-          absurd (omega (arith, ap (count x) nil, count-nil x))))
-          (λ l. r x ∙ if<-no y (sizeAt bs x) _ _ l)
-
-      chain-step : (c k : ℕ) (ms : List ℕ) (y z f : ℕ) → 64 ≤ y → y < z → k ≡ length ms → k < suc c → Rest y ms → f ≢ 0 → first (bins z) ≡ f → ((u : ℕ) → suc y ≤ u → u < z → first (bins u) ≡ 0)
-          → ((k' : ℕ) (ms' : List ℕ) → k' ≡ length ms' → k' < c → Rest z ms' → chain listMarks bs c k' ms' z (after z) ≡ true) → chain listMarks bs (suc c) k ms y f ≡ true
-      unfolding chain
-      chain-step c k ms y z f b yz i h r ne e gap ih =
-          let o : 1 ≤ count f (bins z) = first-count (bins z) f e ne in
-          let s : sizeAt bs f ≡ z = sizes z f o .0 in
-          let t = tops z (omega arith) (λ v. ne (sym e ∙ v)) in
-          let u64 : nextBin bs f ≡ after z = ap (nextBin bs) (sym e) ∙ t .2 in
-          let w = follow-yes (large-tests bs z) (nextLarge bs) (bins z) k ms 0 i (lkL z (omega arith)) (λ x. rest-le y z ms x r yz) in
-          let none : (u x : ℕ) → y < u → u < z → count x (bins u) ≡ 0 =
-          λ u x a d. ap (count x) (linked-empty (large-tests bs u) (nextLarge bs) (bins u) 0 (lkL u (omega arith)) (gap u a d)) ∙ count-nil x in
-          if=-no f 0 _ _ ne
-          ∙ guard-yes (first-tests bs y f) false _
-          (omega arith, (ap (λ (v : ℕ). wordAt 4 bs (v + 12)) (sym e) ∙ t .0, (ap (λ (v : ℕ). wordAt 4 bs (v + 64)) (sym e) ∙ t .1 ∙ ap (λ (v : ℕ). linkWord v (after z)) e ∙ ap (linkWord f) (sym u64), tt)))
-          ∙ ap (λ (m : Left (List ℕ)). if-left m false (λ k' ms'. chain listMarks bs c k' ms' (sizeAt bs f) (nextBin bs f)))
-          (ap (λ (v : ℕ). follow listMarks (large-tests bs v) (nextLarge bs) k ms 0 f) s ∙ ap (follow listMarks (large-tests bs z) (nextLarge bs) k ms 0) (sym e) ∙ w .2)
-          ∙ ap (λ (v : ℕ). chain listMarks bs c (w .0) (w .1) v (nextBin bs f)) s ∙ ap (chain listMarks bs c (w .0) (w .1) z) u64
-          ∙ ih (w .0) (w .1) (w .4) (omega (arith, w .5, some-length (bins z) f o)) (advance y z ms (w .1) r yz none (w .3))
-
-      pub chain-yes : (c k : ℕ) (ms : List ℕ) (y : ℕ) → 64 ≤ y → k ≡ length ms → k < c → Rest y ms → chain listMarks bs c k ms y (after y) ≡ true
-      unfolding chain
-      chain-yes zero k ms y b i h r = absurd (omega arith)
-      chain-yes (suc c) k ms y b i h r =
-          by= (after y) 0
-          (λ e. let nil = nil-of ms (none-left y ms b r e) in if=-yes (after y) 0 _ _ e ∙ guard-yes (same k 0 ∷ []) false true (i ∙ ap length nil, tt))
-          (λ ne. let q = seek-spec (λ (u : ℕ). first (bins u)) n (suc y) ne in
-          chain-step c k ms y (q .0) (after y) b (q .1) i h r ne (q .2) (q .3) (λ k' ms' i' h' r'. chain-yes c k' ms' (q .0) (omega (arith, q .1)) i' h' r'))
+      let r = smalls-inv c (z + 8) (s .0) (s .1) k' ms' (omega arith) (omega arith) (l .4) (s .3) in (
+        r .0,
+        (λ x. omega (arith, r .1 x, l .3 x)),
+        λ b nil all. cons-smalls b z ms (s .1) (l .0) z8 (omega arith) (l .1) (l .2) (l .3)
+            (r .2 b nil all),
+      )

@@ -31,7 +31,8 @@ use Rattle.paper.specs.Sound.{Sound}
 use Rattle.words.specs.Choice.{by<, if<-no}
 use Rattle.words.specs.Words.{Bytes, wordAt}
 
-pub inv-seen : {M A : Type 0} (m : Scanned M) (bad y : A) (f : ℕ → M → ℕ → A) → bad ≢ y → if-seen m bad f ≡ y → (n : ℕ) × (ms : M) × (sum : ℕ) × (m ≡ seen n ms sum) × (f n ms sum ≡ y)
+pub inv-seen : {M A : Type 0} (m : Scanned M) (bad y : A) (f : ℕ → M → ℕ → A) → bad ≢ y → if-seen m bad f ≡ y
+    → (n : ℕ) × (ms : M) × (sum : ℕ) × (m ≡ seen n ms sum) × (f n ms sum ≡ y)
 inv-seen stray bad y f n h = absurd (n h)
 inv-seen (seen k ms sum) bad y f n h = (k, ms, sum, refl, h)
 
@@ -52,7 +53,8 @@ tops-one bs n b u h nz =
     let r = h nz in (
       r .0 ∙ sym (height-one u),
       λ j j1 jh. let e : j ≡ 1 = omega (arith, height-one u) in
-          subst (λ (i : ℕ). wordAt 4 bs (first (b u) + (68 - 4 * i)) ≡ linkWord (first (b u)) (above 1 n b i u)) (sym e) (r .1 ∙ ap (linkWord (first (b u))) (sym (above-one n b u))),
+          subst (λ (i : ℕ). wordAt 4 bs (first (b u) + (68 - 4 * i)) ≡ linkWord (first (b u)) (above 1 n b i u)) (sym e)
+          (r .1 ∙ ap (linkWord (first (b u))) (sym (above-one n b u))),
     )
 
 pub false-zero : (bs : List ℕ) → All (false-tests bs) → (o : ℕ) → o < 72 → o % 4 ≡ 0 → o ≢ 12 → (o < 64) ⊎ (64 < o) → wordAt 4 bs (96 + o) ≡ 0
@@ -62,7 +64,8 @@ false-zero bs ft o l o4 n12 (inl c) =
 false-zero bs ft o l o4 n12 (inr c) = ap (wordAt 4 bs) (omega arith) ∙ ft .1 .1 .1 .0
 
 module _ (bs : List ℕ) (by : Bytes bs) (al : Allowed (length bs)) (rt : All (rest-tests bs)) (xs ys : List Block)
-    (rL : Run bs 0 1 xs) (fL : Facts bs xs 168 1) (tL : 168 + total xs ≡ R bs) (rH : Run bs 1 1 ys) (fH : Facts bs ys (E bs) 1) (tH : E bs + total ys ≡ length bs)
+    (rL : Run bs 0 1 xs) (fL : Facts bs xs 168 1) (tL : 168 + total xs ≡ R bs) (rH : Run bs 1 1 ys) (fH : Facts bs ys (E bs) 1)
+    (tH : E bs + total ys ≡ length bs)
     (fw : wordAt 4 bs 0 ≡ freeSum xs + freeSum ys + (E bs - R bs) - 4) where
   abbrev ms : List ℕ
   ms = marks bs by al rt xs ys rL fL tL rH fH tH
@@ -73,9 +76,11 @@ module _ (bs : List ℕ) (by : Bytes bs) (al : Allowed (length bs)) (rt : All (r
   from-lists : All (false-tests bs) → lists listMarks bs (length ms) ms ≡ true → Sound bs
   unfolding lists
   from-lists ft h =
-      let a = inv-left (smalls listMarks bs 8 8 (length ms) ms) false true (λ k ms'. chain listMarks bs (suc k) k ms' 64 (nextBin bs 96)) false-true h in
+      let a = inv-left (smalls listMarks bs 8 8 (length ms) ms) false true
+      (λ k ms'. chain listMarks bs (suc k) k ms' 64 (nextBin bs 96)) false-true h in
       let c = smalls-inv bs 8 8 (length ms) ms (a .0) (a .1) refl refl refl (a .2) in
-      let B = chain-inv bs m (suc (a .0)) (a .0) (a .1) 64 (nextBin bs 96) (c .0) (λ x o. sizes bs by al rt xs ys rL fL tL rH fH tH x (omega (arith, c .1 x))) (a .3) in
+      let B = chain-inv bs m (suc (a .0)) (a .0) (a .1) 64 (nextBin bs 96) (c .0)
+      (λ x o. sizes bs by al rt xs ys rL fL tL rH fH tH x (omega (arith, c .1 x))) (a .3) in
       let S = c .2 (B .bin) (B .below) (B .all) in
       let past : (u : ℕ) → 64 ≤ u → seek (λ (v : ℕ). first (B .bin v)) m (suc u) ≡ seek (λ (v : ℕ). first (S .bin v)) m (suc u) =
       λ u l. seek-cong _ _ m (suc u) (λ v k. ap first (sym (S .above v (omega arith)))) in
@@ -104,12 +109,15 @@ module _ (bs : List ℕ) where
       let g3 = guard-inv (false-tests bs) false _ true false-true (g2 .1) in
       let s1 = inv-seen (scanned listMarks bs) false true _ false-true (g3 .1) in
       let g4 = guard-inv (same (wordAt 4 bs 0) (s1 .2 + (E bs - R bs) - 4) ∷ []) false (lists listMarks bs (s1 .0) (s1 .1)) true false-true (s1 .4) in
-      let s2 = inv-seen (scan listMarks bs (suc (R bs)) 0 (R bs) 168 1 0 [] 0) stray (seen (s1 .0) (s1 .1) (s1 .2)) (λ n ms sum. scan listMarks bs (suc (length bs)) 1 (length bs) (E bs) 1 n ms sum) (stray-seen (s1 .0) (s1 .1) (s1 .2)) (s1 .3) in
+      let s2 = inv-seen (scan listMarks bs (suc (R bs)) 0 (R bs) 168 1 0 [] 0) stray (seen (s1 .0) (s1 .1) (s1 .2))
+      (λ n ms sum. scan listMarks bs (suc (length bs)) 1 (length bs) (E bs) 1 n ms sum) (stray-seen (s1 .0) (s1 .1) (s1 .2)) (s1 .3) in
       let lo = scan-inv bs (suc (R bs)) 0 (R bs) 168 1 0 [] 0 (s2 .0) (s2 .1) (s2 .2) (omega arith) (omega arith) refl (s2 .3) in
-      let hi = scan-inv bs (suc (length bs)) 1 (length bs) (E bs) 1 (s2 .0) (s2 .1) (s2 .2) (s1 .0) (s1 .1) (s1 .2) (omega arith) (omega arith) (lo .6) (s2 .4) in
+      let hi = scan-inv bs (suc (length bs)) 1 (length bs) (E bs) 1 (s2 .0) (s2 .1) (s2 .2) (s1 .0) (s1 .1) (s1 .2) (omega arith) (omega arith)
+      (lo .6) (s2 .4) in
       from-lists bs by (allowed-inv (length bs) (g1 .0 .0)) (g2 .0) (lo .0) (hi .0) (lo .1) (lo .2) (lo .3) (hi .1) (hi .2) (hi .3)
       (g4 .0 .0 ∙ ap (λ (v : ℕ). v + (E bs - R bs) - 4) (omega (arith, lo .5, hi .5))) (g3 .0)
-      (subst (λ (v : List ℕ). lists listMarks bs (length v) v ≡ true) (hi .4 ∙ ap (push (hi .0) (E bs)) (lo .4)) (subst (λ (v : ℕ). lists listMarks bs v (s1 .1) ≡ true) (hi .6) (g4 .1)))
+      (subst (λ (v : List ℕ). lists listMarks bs (length v) v ≡ true) (hi .4 ∙ ap (push (hi .0) (E bs)) (lo .4))
+      (subst (λ (v : ℕ). lists listMarks bs v (s1 .1) ≡ true) (hi .6) (g4 .1)))
 
   pub all-sound : Sound bs → inspect listMarks bs ≡ true
   all-sound S = accepts bs (S .state) (S .well-formed) (sym (S .ends)) (S .holds) (S .is-top)

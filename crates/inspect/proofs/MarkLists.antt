@@ -1,4 +1,5 @@
--- Marks as the list of what is marked: nothing left is [], the count is its length. What a list that was followed has read, and that it passes what is there.
+-- Marks as the list of what is marked: nothing left is [], the count is its length.
+-- What a list that was followed has read, and that it passes what is there.
 use mathlib.Core.List.{List, [], _∷_}
 use mathlib.Core.Logic.{_≢_}
 use mathlib.Core.Option.{none, some}
@@ -12,7 +13,6 @@ use Rattle.inspect.specs.MarkSets.{MarkSet}
 use Rattle.inspect.specs.Tests.{Test, less}
 use Rattle.paper.proofs.Bins.{count-cons, count-here, count-nil, count-there, empty, next-absent, prev-absent}
 use Rattle.paper.specs.Bins.{count, first, nextIn, prevIn}
-use Rattle.words.proofs.Tests.{tests}
 use Rattle.words.specs.Choice.{by=, if=, if=-no, if=-yes, ifs}
 
 unfoldable pub remove : ℕ → List ℕ → List ℕ
@@ -40,10 +40,12 @@ pub lost-left : {M : Type 0} (k : ℕ) (ms : M) → lost ≢ left k ms
 lost-left k ms e = let z : _≡_ {A = ℕ} 0 1 = cc in omega arith
 
 pub prev-in : (r : ℕ) (l : List ℕ) (q v : ℕ) → prevIn r l q ≡ some v → 1 ≤ count q l
-prev-in r l q v e = by= (count q l) 0 (λ z. absurd (let o : none ≡ some v = sym (prev-absent r l q z) ∙ e in let t : _≡_ {A = ℕ} 0 1 = cc in omega arith)) (λ n. omega arith)
+prev-in r l q v e = by= (count q l) 0
+    (λ z. absurd (let o : none ≡ some v = sym (prev-absent r l q z) ∙ e in let t : _≡_ {A = ℕ} 0 1 = cc in omega arith)) (λ n. omega arith)
 
 pub next-in : (l : List ℕ) (q v : ℕ) → nextIn l q ≡ some v → 1 ≤ count q l
-next-in l q v e = by= (count q l) 0 (λ z. absurd (let o : none ≡ some v = sym (next-absent l q z) ∙ e in let t : _≡_ {A = ℕ} 0 1 = cc in omega arith)) (λ n. omega arith)
+next-in l q v e = by= (count q l) 0 (λ z. absurd (let o : none ≡ some v = sym (next-absent l q z) ∙ e in let t : _≡_ {A = ℕ} 0 1 = cc in omega arith))
+    (λ n. omega arith)
 
 module _ (tests : ℕ → ℕ → List Test) (next : ℕ → ℕ) where
   abbrev pub Linked : ℕ → List ℕ → Type 0
@@ -53,7 +55,8 @@ module _ (tests : ℕ → ℕ → List Test) (next : ℕ → ℕ) where
   abbrev pub Read : ℕ → List ℕ → ℕ → ℕ → List ℕ → Type 0
   Read p ms q k' ms' = (l : List ℕ) × (first l ≡ q) × Linked p l × ((x : ℕ) → count x ms ≡ count x l + count x ms') × (k' ≡ length ms')
 
-  pub follow-inv : (k : ℕ) (ms : List ℕ) (p q k' : ℕ) (ms' : List ℕ) → k ≡ length ms → follow listMarks tests next k ms p q ≡ left k' ms' → Read p ms q k' ms'
+  pub follow-inv : (k : ℕ) (ms : List ℕ) (p q k' : ℕ) (ms' : List ℕ) → k ≡ length ms → follow listMarks tests next k ms p q ≡ left k' ms'
+      → Read p ms q k' ms'
   unfolding follow first
   follow-inv zero ms p q k' ms' e h =
       by= q 0
@@ -64,13 +67,15 @@ module _ (tests : ℕ → ℕ → List Test) (next : ℕ → ℕ) where
       by= q 0
       (λ z. let h' : left (suc k) ms ≡ left k' ms' = sym (if=-yes q 0 _ _ z) ∙ h in let a : suc k ≡ k' = cc in let b : ms ≡ ms' = cc in
       ([], sym z, tt, (λ x. rw (← b) (omega (arith, count-nil x))), sym a ∙ e ∙ ap length b))
-      (λ z. let r = guard-inv (less 0 (count q ms) ∷ tests p q) lost (follow listMarks tests next k (remove q ms) q (next q)) (left k' ms') (lost-left k' ms') (sym (if=-no q 0 _ _ z) ∙ h) in
+      (λ z. let r = guard-inv (less 0 (count q ms) ∷ tests p q) lost (follow listMarks tests next k (remove q ms) q (next q)) (left k' ms')
+      (lost-left k' ms') (sym (if=-no q 0 _ _ z) ∙ h) in
       let len = length-remove q ms (r .0 .0) in
       let i = follow-inv k (remove q ms) q (next q) k' ms' (omega arith) (r .1) in
       (q ∷ i .0, refl, (z, r .0 .1, sym (i .1), i .2), (λ x. omega (arith, count-remove q x ms (r .0 .0), count-cons x q (i .0), i .3 x)), i .4))
 
   pub follow-yes : (l : List ℕ) (k : ℕ) (ms : List ℕ) (p : ℕ) → k ≡ length ms → Linked p l → ((x : ℕ) → count x l ≤ count x ms)
-      → (k' : ℕ) × (ms' : List ℕ) × (follow listMarks tests next k ms p (first l) ≡ left k' ms') × ((x : ℕ) → count x ms ≡ count x l + count x ms') × (k' ≡ length ms') × (k' + length l ≡ k)
+      → (k' : ℕ) × (ms' : List ℕ) × (follow listMarks tests next k ms p (first l) ≡ left k' ms') × ((x : ℕ) → count x ms ≡ count x l + count x ms')
+      × (k' ≡ length ms') × (k' + length l ≡ k)
   unfolding follow first
   follow-yes [] zero ms p e h o = (zero, ms, if=-yes 0 0 _ _ refl, (λ x. omega (arith, count-nil x)), e, omega arith)
   follow-yes [] (suc k) ms p e h o = (suc k, ms, if=-yes 0 0 _ _ refl, (λ x. omega (arith, count-nil x)), e, omega arith)
@@ -81,7 +86,8 @@ module _ (tests : ℕ → ℕ → List Test) (next : ℕ → ℕ) where
       let i = follow-yes l k (remove q ms) q (omega arith) (h .3) (λ x. omega (arith, o x, count-remove q x ms m, count-cons x q l)) in (
         i .0,
         i .1,
-        if=-no q 0 _ _ (h .0) ∙ guard-yes (less 0 (count q ms) ∷ tests p q) lost _ (m, h .1) ∙ ap (follow listMarks tests next k (remove q ms) q) (h .2) ∙ i .2,
+        if=-no q 0 _ _ (h .0) ∙ guard-yes (less 0 (count q ms) ∷ tests p q) lost _ (m, h .1)
+            ∙ ap (follow listMarks tests next k (remove q ms) q) (h .2) ∙ i .2,
         (λ x. omega (arith, count-remove q x ms m, count-cons x q l, i .3 x)),
         i .4,
         omega (arith, i .5),
@@ -102,7 +108,8 @@ module _ (tests : ℕ → ℕ → List Test) (next : ℕ → ℕ) where
       by= x q (λ f. let e' : some (first l) ≡ some v = sym (if=-yes x q _ _ f) ∙ e in let g : first l ≡ v = cc in sym (ap next f) ∙ h .2 ∙ g)
       (λ n. linked-next l x q v (h .3) (sym (if=-no x q _ _ n) ∙ e))
 
-  pub linked-from : (l : List ℕ) (p : ℕ) → ((q : ℕ) → count q l ≤ 1) → count 0 l ≡ 0 → ((q v : ℕ) → prevIn p l q ≡ some v → All (tests v q)) → ((q v : ℕ) → nextIn l q ≡ some v → next q ≡ v) → Linked p l
+  pub linked-from : (l : List ℕ) (p : ℕ) → ((q : ℕ) → count q l ≤ 1) → count 0 l ≡ 0 → ((q v : ℕ) → prevIn p l q ≡ some v → All (tests v q))
+      → ((q v : ℕ) → nextIn l q ≡ some v → next q ≡ v) → Linked p l
   unfolding prevIn nextIn
   linked-from [] p o z f g = tt
   linked-from (x ∷ l) p o z f g = (

@@ -49,7 +49,8 @@ module _ (bs : List ℕ) where
   abbrev pub Facts : List Block → ℕ → ℕ → Type 0
   Facts xs p P = (q z : ℕ) (k : Kind) (P' : ℕ) → In xs p P q (block z k) P' → (wordAt 4 bs q ≡ headWord z k P') × Foot q z k P'
 
-  facts-cons : (z : ℕ) (k : Kind) (xs : List Block) (p P : ℕ) → wordAt 4 bs p ≡ headWord z k P → Foot p z k P → Facts xs (p + z) (flagAbove (block z k)) → Facts (block z k ∷ xs) p P
+  facts-cons : (z : ℕ) (k : Kind) (xs : List Block) (p P : ℕ) → wordAt 4 bs p ≡ headWord z k P → Foot p z k P
+      → Facts xs (p + z) (flagAbove (block z k)) → Facts (block z k ∷ xs) p P
   facts-cons z k xs p P h f r q y l P' (inl i) =
       let a : y ≡ z = ap size (i .1) in
       let b : l ≡ k = ap kind (i .1) in
@@ -60,9 +61,11 @@ module _ (bs : List ℕ) where
   facts-cons z k xs p P h f r q y l P' (inr i) = r q y l P' i
 
   abbrev pub Scan : ℕ → ℕ → ℕ → ℕ → List ℕ → ℕ → ℕ → List ℕ → ℕ → Type 0
-  Scan c e p P ms sum n' ms' sum' = (xs : List Block) × Run c P xs × Facts xs p P × (p + total xs ≡ e) × (ms' ≡ push xs p ms) × (sum' ≡ sum + freeSum xs) × (n' ≡ length ms')
+  Scan c e p P ms sum n' ms' sum' = (xs : List Block) × Run c P xs × Facts xs p P × (p + total xs ≡ e) × (ms' ≡ push xs p ms)
+      × (sum' ≡ sum + freeSum xs) × (n' ≡ length ms')
 
-  pub scan-inv : (k c e p P n : ℕ) (ms : List ℕ) (sum n' : ℕ) (ms' : List ℕ) (sum' : ℕ) → P ≤ 1 → c ≤ 1 → n ≡ length ms → scan listMarks bs k c e p P n ms sum ≡ seen n' ms' sum' → Scan c e p P ms sum n' ms' sum'
+  pub scan-inv : (k c e p P n : ℕ) (ms : List ℕ) (sum n' : ℕ) (ms' : List ℕ) (sum' : ℕ) → P ≤ 1 → c ≤ 1 → n ≡ length ms
+      → scan listMarks bs k c e p P n ms sum ≡ seen n' ms' sum' → Scan c e p P ms sum n' ms' sum'
   unfolding scan push
   scan-inv zero c e p P n ms sum n' ms' sum' b b' l h = absurd (stray-seen n' ms' sum' h)
   scan-inv (suc k) c e p P n ms sum n' ms' sum' b b' l h =
@@ -71,12 +74,23 @@ module _ (bs : List ℕ) where
       let r1 : seen n ms sum ≡ seen n' ms' sum' = r .1 in let a3 : n' ≡ n = cc in
       let a1 : ms' ≡ ms = cc in let a2 : sum' ≡ sum = cc in
       ([], r .0 .0, (λ q z l P' m. absurd m), omega arith, a1, omega arith, a3 ∙ l ∙ ap length (sym a1)))
-      (λ i. let r = guard-inv (less 7 (sizeAt bs p) ∷ same (small (sizeAt bs p)) c ∷ same (sizeAt bs p % 8) 0 ∷ less (p + sizeAt bs p) (suc e) ∷ []) stray _ (seen n' ms' sum') (stray-seen n' ms' sum') (sym (if=-no p e _ _ i) ∙ h) in
+      (λ i. let r = guard-inv (less 7 (sizeAt bs p) ∷ same (small (sizeAt bs p)) c ∷ same (sizeAt bs p % 8) 0 ∷ less (p + sizeAt bs p) (suc e) ∷ [])
+      stray _ (seen n' ms' sum') (stray-seen n' ms' sum') (sym (if=-no p e _ _ i) ∙ h) in
       let fit : Fit c (sizeAt bs p) = (r .0 .0, r .0 .1 .0, r .0 .1 .1 .0) in let last = r .0 .1 .1 .1 .0 in
       by= (wordAt 4 bs p % 4) (2 * P + 1)
-      (λ a. let v = scan-inv k c e (p + sizeAt bs p) 1 n ms sum n' ms' sum' (omega arith) b' l (sym (if=-yes (wordAt 4 bs p % 4) (2 * P + 1) _ _ a) ∙ r .1) in
-      (block (sizeAt bs p) held ∷ v .0, (fit, v .1), facts-cons (sizeAt bs p) held (v .0) p P (omega arith) tt (v .2), omega (arith, v .3), v .4, v .5, v .6))
-      (λ a. let g = guard-inv (same P 1 ∷ same (wordAt 4 bs p % 4) 2 ∷ same (footAt bs p) (wordAt 4 bs p) ∷ []) stray _ (seen n' ms' sum') (stray-seen n' ms' sum')
+      (λ a. let v = scan-inv k c e (p + sizeAt bs p) 1 n ms sum n' ms' sum' (omega arith) b' l
+      (sym (if=-yes (wordAt 4 bs p % 4) (2 * P + 1) _ _ a) ∙ r .1) in (
+        block (sizeAt bs p) held ∷ v .0,
+        (fit, v .1),
+        facts-cons (sizeAt bs p) held (v .0) p P (omega arith) tt (v .2),
+        omega
+            (arith, v .3),
+        v .4,
+        v .5,
+        v .6,
+      ))
+      (λ a. let g = guard-inv (same P 1 ∷ same (wordAt 4 bs p % 4) 2 ∷ same (footAt bs p) (wordAt 4 bs p) ∷ []) stray _ (seen n' ms' sum')
+      (stray-seen n' ms' sum')
       (sym (if=-no (wordAt 4 bs p % 4) (2 * P + 1) _ _ a) ∙ r .1) in
       let v = scan-inv k c e (p + sizeAt bs p) c (suc n) (p ∷ ms) (sum + sizeAt bs p) n' ms' sum' b' b' (ap suc l) (g .1) in
       let hd : wordAt 4 bs p ≡ headWord (sizeAt bs p) free P = omega (arith, g .0 .0, g .0 .1 .0) in (
@@ -96,7 +110,8 @@ module _ (bs : List ℕ) where
   abbrev fits : ℕ → ℕ → ℕ → List Test
   fits c e p = less 7 (sizeAt bs p) ∷ same (small (sizeAt bs p)) c ∷ same (sizeAt bs p % 8) 0 ∷ less (p + sizeAt bs p) (suc e) ∷ []
 
-  pub scan-yes : (xs : List Block) (k c e p P n : ℕ) (ms : List ℕ) (sum : ℕ) → P ≤ 1 → c ≤ 1 → n ≡ length ms → total xs < k → p + total xs ≡ e → Run c P xs → Facts xs p P
+  pub scan-yes : (xs : List Block) (k c e p P n : ℕ) (ms : List ℕ) (sum : ℕ) → P ≤ 1 → c ≤ 1 → n ≡ length ms → total xs < k → p + total xs ≡ e
+      → Run c P xs → Facts xs p P
       → scan listMarks bs k c e p P n ms sum ≡ seen (length (push xs p ms)) (push xs p ms) (sum + freeSum xs)
   unfolding scan push
   scan-yes xs zero c e p P n ms sum b b' ln f i r h = absurd (omega arith)
@@ -121,15 +136,26 @@ module _ (bs : List ℕ) where
       if=-no p e _ _ (omega arith)
       ∙ guard-yes (fits c e p) stray _ (omega arith, (ap (λ (y : ℕ). small y) s ∙ r .0 .1, (omega arith, (omega arith, tt))))
       ∙ if=-no (wordAt 4 bs p % 4) (2 * P + 1) _ _ (omega arith)
-      ∙ guard-yes (same P 1 ∷ same (wordAt 4 bs p % 4) 2 ∷ same (footAt bs p) (wordAt 4 bs p) ∷ []) stray _
-      (P1, (omega arith, (by< (sizeAt bs p) 72 (λ l. if<-yes (sizeAt bs p) 72 _ _ l) (λ l. if<-no (sizeAt bs p) 72 _ _ l ∙ ap (λ (y : ℕ). wordAt 4 bs (p + (y - 4))) s ∙ d .1 (omega arith) ∙ sym hd), tt)))
+      ∙ guard-yes (same P 1 ∷ same (wordAt 4 bs p % 4) 2 ∷ same (footAt bs p) (wordAt 4 bs p) ∷ []) stray _ (
+        P1,
+        (
+          omega arith,
+          (
+            by< (sizeAt bs p) 72 (λ l. if<-yes (sizeAt bs p) 72 _ _ l)
+                (λ l. if<-no (sizeAt bs p) 72 _ _ l ∙ ap (λ (y : ℕ). wordAt 4 bs (p + (y - 4))) s ∙ d .1 (omega arith) ∙ sym hd),
+            tt,
+          ),
+        ),
+      )
       ∙ ap (λ (y : ℕ). scan listMarks bs k c e (p + y) c (suc n) (p ∷ ms) (sum + y)) s
-      ∙ scan-yes xs k c e (p + z) c (suc n) (p ∷ ms) (sum + z) b' b' (ap suc ln) (omega arith) (omega arith) (r .2) (subst (λ (u : ℕ). Facts xs (p + z) u) (r .0 .1) (facts-tail z free xs p P h))
+      ∙ scan-yes xs k c e (p + z) c (suc n) (p ∷ ms) (sum + z) b' b' (ap suc ln) (omega arith) (omega arith) (r .2)
+      (subst (λ (u : ℕ). Facts xs (p + z) u) (r .0 .1) (facts-tail z free xs p P h))
       ∙ ap (seen (length (push xs (p + z) (p ∷ ms))) (push xs (p + z) (p ∷ ms))) (omega arith)
   scan-yes (block z remainder ∷ xs) (suc k) c e p P n ms sum b b' ln f i r h = absurd r
 
   -- the marks are the free blocks
-  pub count-push : (xs : List Block) (p P : ℕ) (ms : List ℕ) (q : ℕ) → P ≤ 1 → Facts xs p P → count q (push xs p ms) ≡ freeAt xs p (sizeAt bs q) q + count q ms
+  pub count-push : (xs : List Block) (p P : ℕ) (ms : List ℕ) (q : ℕ) → P ≤ 1 → Facts xs p P
+      → count q (push xs p ms) ≡ freeAt xs p (sizeAt bs q) q + count q ms
   unfolding push freeAt
   count-push [] p P ms q b f = omega arith
   count-push (block z held ∷ xs) p P ms q b f = count-push xs (p + z) 1 ms q (omega arith) (facts-tail z held xs p P f)
@@ -139,4 +165,5 @@ module _ (bs : List ℕ) where
       let hd : wordAt 4 bs p ≡ headWord z free P = f p z free P (inl (refl, refl, refl)) .0 in
       by= p q
       (λ e. let k : z ≡ sizeAt bs q = omega (arith, ap (sizeAt bs) e) in simp ifs (omega (arith, i, count-cons q p ms, if=-yes {A = ℕ} p q 1 0 e)))
-      (λ n. by= z (sizeAt bs q) (λ k. simp ifs (omega (arith, i, count-cons q p ms, if=-no {A = ℕ} p q 1 0 n))) (λ k. simp ifs (omega (arith, i, count-cons q p ms, if=-no {A = ℕ} p q 1 0 n))))
+      (λ n. by= z (sizeAt bs q) (λ k. simp ifs (omega (arith, i, count-cons q p ms, if=-no {A = ℕ} p q 1 0 n)))
+      (λ k. simp ifs (omega (arith, i, count-cons q p ms, if=-no {A = ℕ} p q 1 0 n))))

@@ -18,7 +18,6 @@ use Rattle.marks.specs.Marks.{bitAt, putBitAt}
 use Rattle.paper.proofs.Allowed.{allowed-inv}
 use Rattle.paper.proofs.Bins.{count-cons, count-nil, count-there}
 use Rattle.paper.specs.Bins.{count}
-use Rattle.words.proofs.Tests.{tests}
 use Rattle.words.specs.Choice.{by<, by=, if=, if=-no, if=-yes, ifs}
 use Rattle.words.specs.Words.{wordAt}
 
@@ -30,22 +29,25 @@ bit-put : (ws : List ℕ) (q c x : ℕ) → c < 2 → q / 8 / 64 < length ws →
 unfolding markAt
 bit-put ws q c x c2 l al =
     by= q x
-    (λ e. if=-yes (x % 8) 0 _ _ (omega arith) ∙ ap (λ (v : ℕ). bitAt (putBitAt ws (q / 8) c) (v / 8)) (sym e) ∙ has-same ws (q / 8) c c2 l ∙ sym (if=-yes q x _ _ e))
+    (λ e. if=-yes (x % 8) 0 _ _ (omega arith) ∙ ap (λ (v : ℕ). bitAt (putBitAt ws (q / 8) c) (v / 8)) (sym e) ∙ has-same ws (q / 8) c c2 l
+    ∙ sym (if=-yes q x _ _ e))
     (λ n. by= (x % 8) 0
     (λ a. if=-yes (x % 8) 0 _ _ a ∙ has-other ws (q / 8) c (x / 8) c2 l (λ e. n (omega arith)) ∙ sym (if=-no q x _ _ n ∙ if=-yes (x % 8) 0 _ _ a))
     (λ a. if=-no (x % 8) 0 _ _ a ∙ sym (if=-no q x _ _ n ∙ if=-no (x % 8) 0 _ _ a)))
 
--- what is marked is a place of the bitMarks
+-- what is marked is a place of the bits
 in-place : (ms ws : List ℕ) (q : ℕ) → Rep ms ws → 1 ≤ count q ms → (q % 8 ≡ 0) × (q / 8 / 64 < length ws)
 unfolding markAt
 in-place ms ws q r o =
     by= (q % 8) 0
-    (λ a. by< (q / 8 / 64) (length ws) (λ l. (a, l)) (λ l. absurd (omega (arith, r .same-bits q, if=-yes {A = ℕ} (q % 8) 0 (bitAt ws (q / 8)) 0 a, bit-out ws (q / 8) l))))
+    (λ a. by< (q / 8 / 64) (length ws) (λ l. (a, l))
+    (λ l. absurd (omega (arith, r .same-bits q, if=-yes {A = ℕ} (q % 8) 0 (bitAt ws (q / 8)) 0 a, bit-out ws (q / 8) l))))
     (λ a. absurd (omega (arith, r .same-bits q, if=-no {A = ℕ} (q % 8) 0 (bitAt ws (q / 8)) 0 a)))
 
 rep-once : (ms ws : List ℕ) (x : ℕ) → Rep ms ws → count x ms ≤ 1
 unfolding markAt bitAt
-rep-once ms ws x r = by= (x % 8) 0 (λ a. omega (arith, r .same-bits x, if=-yes {A = ℕ} (x % 8) 0 (bitAt ws (x / 8)) 0 a)) (λ a. omega (arith, r .same-bits x, if=-no {A = ℕ} (x % 8) 0 (bitAt ws (x / 8)) 0 a))
+rep-once ms ws x r = by= (x % 8) 0 (λ a. omega (arith, r .same-bits x, if=-yes {A = ℕ} (x % 8) 0 (bitAt ws (x / 8)) 0 a))
+    (λ a. omega (arith, r .same-bits x, if=-no {A = ℕ} (x % 8) 0 (bitAt ws (x / 8)) 0 a))
 
 rep-drop : (ms ws : List ℕ) (q : ℕ) → Rep ms ws → 1 ≤ count q ms → Rep (remove q ms) (putBitAt ws (q / 8) 0)
 rep-drop ms ws q r o =
@@ -53,8 +55,24 @@ rep-drop ms ws q r o =
     record {
       long = length-put ws (q / 8) 0 ∙ r .long;
       same-bits = λ x. by= q x
-          (λ e. let b = rep-once ms ws x r in omega (arith, count-remove q x ms o, if=-yes {A = ℕ} q x 1 0 e, bit-put ws q 0 x (omega arith) (i .1) (i .0), if=-yes {A = ℕ} q x 0 (markAt ws x) e))
-          (λ n. omega (arith, r .same-bits x, count-remove q x ms o, if=-no {A = ℕ} q x 1 0 n, bit-put ws q 0 x (omega arith) (i .1) (i .0), if=-no {A = ℕ} q x 0 (markAt ws x) n));
+          (λ e. let b = rep-once ms ws x r in
+          omega (
+            arith,
+            count-remove q x ms o,
+            if=-yes {A = ℕ} q x 1 0 e,
+            bit-put ws q 0 x (omega arith) (i .1) (i .0),
+            if=-yes {A = ℕ} q x 0
+                (markAt ws x) e,
+          ))
+          (λ n. omega (
+            arith,
+            r .same-bits x,
+            count-remove q x ms o,
+            if=-no {A = ℕ} q x 1 0 n,
+            bit-put ws q 0 x (omega arith) (i .1) (i .0),
+            if=-no
+                {A = ℕ} q x 0 (markAt ws x) n,
+          ));
     }
 
 rep-put : (ms ws : List ℕ) (p : ℕ) → Rep ms ws → count p ms ≡ 0 → p % 8 ≡ 0 → p < 65536 → Rep (p ∷ ms) (putBitAt ws (p / 8) 1)
@@ -63,12 +81,29 @@ rep-put ms ws p r o al l =
     record {
       long = length-put ws (p / 8) 1 ∙ r .long;
       same-bits = λ x. by= p x
-          (λ e. omega (arith, count-cons x p ms, ap (λ (v : ℕ). count v ms) e, if=-yes {A = ℕ} p x 1 0 e, bit-put ws p 1 x (omega arith) i al, if=-yes {A = ℕ} p x 1 (markAt ws x) e))
-          (λ n. omega (arith, r .same-bits x, count-cons x p ms, if=-no {A = ℕ} p x 1 0 n, bit-put ws p 1 x (omega arith) i al, if=-no {A = ℕ} p x 1 (markAt ws x) n));
+          (λ e. omega (
+            arith,
+            count-cons x p ms,
+            ap (λ (v : ℕ). count v ms) e,
+            if=-yes {A = ℕ} p x 1 0 e,
+            bit-put ws p 1 x (omega arith) i al,
+            if=-yes
+                {A = ℕ} p x 1 (markAt ws x) e,
+          ))
+          (λ n. omega (
+            arith,
+            r .same-bits x,
+            count-cons x p ms,
+            if=-no {A = ℕ} p x 1 0 n,
+            bit-put ws p 1 x (omega arith) i al,
+            if=-no {A = ℕ} p x 1
+                (markAt ws x) n,
+          ));
     }
 
 -- ---- two runs
-pub guard-rel : {A B : Type 0} (Q : A → B → Type 0) (ts : List Test) (bad x : A) (bad' x' : B) → Q bad bad' → (All ts → Q x x') → Q (guard ts bad x) (guard ts bad' x')
+pub guard-rel : {A B : Type 0} (Q : A → B → Type 0) (ts : List Test) (bad x : A) (bad' x' : B) → Q bad bad' → (All ts → Q x x')
+    → Q (guard ts bad x) (guard ts bad' x')
 guard-rel Q [] bad x bad' x' n h = h tt
 guard-rel Q (same a b ∷ ts) bad x bad' x' n h = by= a b (λ e. simp ifs (guard-rel Q ts bad x bad' x' n (λ k. h (e, k)))) (λ e. simp ifs n)
 guard-rel Q (less a b ∷ ts) bad x bad' x' n h = by< a b (λ e. simp ifs (guard-rel Q ts bad x bad' x' n (λ k. h (e, k)))) (λ e. simp ifs n)
@@ -81,15 +116,18 @@ RepLeft lost (left k ws) = ⊥
 RepLeft (left k ms) lost = ⊥
 RepLeft (left k ms) (left k' ws) = (k ≡ k') × Rep ms ws
 
-pub sim-follow : (tests : ℕ → ℕ → List Test) (next : ℕ → ℕ) (k : ℕ) (ms ws : List ℕ) (p q : ℕ) → Rep ms ws → RepLeft (follow listMarks tests next k ms p q) (follow bitMarks tests next k ws p q)
+pub sim-follow : (tests : ℕ → ℕ → List Test) (next : ℕ → ℕ) (k : ℕ) (ms ws : List ℕ) (p q : ℕ) → Rep ms ws
+    → RepLeft (follow listMarks tests next k ms p q) (follow bitMarks tests next k ws p q)
 unfolding follow
 sim-follow tests next zero ms ws p q r = by= q 0 (λ e. simp ifs (refl, r)) (λ e. simp ifs tt)
 sim-follow tests next (suc k) ms ws p q r =
     by= q 0 (λ e. simp ifs (refl, r))
     (λ e. simp ifs (rw (← r .same-bits q)
-    (guard-rel RepLeft (less 0 (count q ms) ∷ tests p q) lost _ lost _ tt (λ h. sim-follow tests next k (remove q ms) (putBitAt ws (q / 8) 0) q (next q) (rep-drop ms ws q r (h .0))))))
+    (guard-rel RepLeft (less 0 (count q ms) ∷ tests p q) lost _ lost _ tt
+    (λ h. sim-follow tests next k (remove q ms) (putBitAt ws (q / 8) 0) q (next q) (rep-drop ms ws q r (h .0))))))
 
-pub left-rel : {A B : Type 0} (Q : A → B → Type 0) (m m' : Left (List ℕ)) (bad : A) (f : ℕ → List ℕ → A) (bad' : B) (f' : ℕ → List ℕ → B) → RepLeft m m' → Q bad bad'
+pub left-rel : {A B : Type 0} (Q : A → B → Type 0) (m m' : Left (List ℕ)) (bad : A) (f : ℕ → List ℕ → A) (bad' : B) (f' : ℕ → List ℕ → B)
+    → RepLeft m m' → Q bad bad'
     → ((k : ℕ) (ms ws : List ℕ) → Rep ms ws → Q (f k ms) (f' k ws)) → Q (if-left m bad f) (if-left m' bad' f')
 left-rel Q lost lost bad f bad' f' r n h = n
 left-rel Q lost (left k ws) bad f bad' f' r n h = absurd r
@@ -103,8 +141,10 @@ RepScan e stray (seen n ws sum) = ⊥
 RepScan e (seen n ms sum) stray = ⊥
 RepScan e (seen n ms sum) (seen n' ws sum') = (n ≡ n') × Rep ms ws × (sum ≡ sum') × ((x : ℕ) → e ≤ x → count x ms ≡ 0)
 
-pub seen-rel : {A B : Type 0} (Q : A → B → Type 0) (e : ℕ) (m m' : Scanned (List ℕ)) (bad : A) (f : ℕ → List ℕ → ℕ → A) (bad' : B) (f' : ℕ → List ℕ → ℕ → B) → RepScan e m m' → Q bad bad'
-    → ((n : ℕ) (ms ws : List ℕ) (sum : ℕ) → Rep ms ws → ((x : ℕ) → e ≤ x → count x ms ≡ 0) → Q (f n ms sum) (f' n ws sum)) → Q (if-seen m bad f) (if-seen m' bad' f')
+pub seen-rel : {A B : Type 0} (Q : A → B → Type 0) (e : ℕ) (m m' : Scanned (List ℕ)) (bad : A) (f : ℕ → List ℕ → ℕ → A) (bad' : B)
+    (f' : ℕ → List ℕ → ℕ → B) → RepScan e m m' → Q bad bad'
+    → ((n : ℕ) (ms ws : List ℕ) (sum : ℕ) → Rep ms ws → ((x : ℕ) → e ≤ x → count x ms ≡ 0) → Q (f n ms sum) (f' n ws sum))
+    → Q (if-seen m bad f) (if-seen m' bad' f')
 seen-rel Q e stray stray bad f bad' f' r n h = n
 seen-rel Q e stray (seen k ws sum) bad f bad' f' r n h = absurd r
 seen-rel Q e (seen k ms sum) stray bad f bad' f' r n h = absurd r
@@ -116,8 +156,10 @@ module _ (bs : List ℕ) where
   unfolding smalls
   sim-smalls zero z k ms ws r = (refl, r)
   sim-smalls (suc c) z k ms ws r =
-      left-rel RepLeft (follow listMarks (small-tests bs z) (nextSmall bs) k ms 0 (wordAt 4 bs (z + 24))) (follow bitMarks (small-tests bs z) (nextSmall bs) k ws 0 (wordAt 4 bs (z + 24)))
-      lost (λ k' ms'. smalls listMarks bs c (z + 8) k' ms') lost (λ k' ms'. smalls bitMarks bs c (z + 8) k' ms') (sim-follow (small-tests bs z) (nextSmall bs) k ms ws 0 (wordAt 4 bs (z + 24)) r) tt (λ k' ms' ws' r'. sim-smalls c (z + 8) k' ms' ws' r')
+      left-rel RepLeft (follow listMarks (small-tests bs z) (nextSmall bs) k ms 0 (wordAt 4 bs (z + 24)))
+      (follow bitMarks (small-tests bs z) (nextSmall bs) k ws 0 (wordAt 4 bs (z + 24)))
+      lost (λ k' ms'. smalls listMarks bs c (z + 8) k' ms') lost (λ k' ms'. smalls bitMarks bs c (z + 8) k' ms')
+      (sim-follow (small-tests bs z) (nextSmall bs) k ms ws 0 (wordAt 4 bs (z + 24)) r) tt (λ k' ms' ws' r'. sim-smalls c (z + 8) k' ms' ws' r')
 
   pub sim-chain : (c k : ℕ) (ms ws : List ℕ) (y f : ℕ) → Rep ms ws → chain listMarks bs c k ms y f ≡ chain bitMarks bs c k ws y f
   unfolding chain
@@ -125,8 +167,11 @@ module _ (bs : List ℕ) where
   sim-chain (suc c) k ms ws y f r =
       by= f 0 (λ e. simp ifs)
       (λ e. simp ifs (guard-rel (λ (a b : Bool). a ≡ b) (first-tests bs y f) false _ false _ refl
-      (λ t. left-rel (λ (a b : Bool). a ≡ b) (follow listMarks (large-tests bs (sizeAt bs f)) (nextLarge bs) k ms 0 f) (follow bitMarks (large-tests bs (sizeAt bs f)) (nextLarge bs) k ws 0 f)
-      false (λ k' ms'. chain listMarks bs c k' ms' (sizeAt bs f) (nextBin bs f)) false (λ k' ms'. chain bitMarks bs c k' ms' (sizeAt bs f) (nextBin bs f)) (sim-follow (large-tests bs (sizeAt bs f)) (nextLarge bs) k ms ws 0 f r) refl
+      (λ t. left-rel (λ (a b : Bool). a ≡ b) (follow listMarks (large-tests bs (sizeAt bs f)) (nextLarge bs) k ms 0 f)
+      (follow bitMarks (large-tests bs (sizeAt bs f)) (nextLarge bs) k ws 0 f)
+      false (λ k' ms'. chain listMarks bs c k' ms' (sizeAt bs f) (nextBin bs f)) false
+      (λ k' ms'. chain bitMarks bs c k' ms' (sizeAt bs f) (nextBin bs f))
+      (sim-follow (large-tests bs (sizeAt bs f)) (nextLarge bs) k ms ws 0 f r) refl
       (λ k' ms' ws' r'. sim-chain c k' ms' ws' (sizeAt bs f) (nextBin bs f) r'))))
 
   pub sim-scan : (k c e p P n : ℕ) (ms ws : List ℕ) (sum : ℕ) → p % 8 ≡ 0 → e ≤ 65536 → Rep ms ws → ((x : ℕ) → p ≤ x → count x ms ≡ 0)
@@ -136,7 +181,8 @@ module _ (bs : List ℕ) where
   sim-scan (suc k) c e p P n ms ws sum al b r fresh =
       by= p e
       (λ i. simp ifs (guard-rel (RepScan e) (same P 1 ∷ []) stray _ stray _ tt (λ t. (refl, r, refl, λ x l. fresh x (omega arith)))))
-      (λ i. simp ifs (guard-rel (RepScan e) (less 7 (sizeAt bs p) ∷ same (small (sizeAt bs p)) c ∷ same (sizeAt bs p % 8) 0 ∷ less (p + sizeAt bs p) (suc e) ∷ []) stray _ stray _ tt
+      (λ i. simp ifs (guard-rel (RepScan e)
+      (less 7 (sizeAt bs p) ∷ same (small (sizeAt bs p)) c ∷ same (sizeAt bs p % 8) 0 ∷ less (p + sizeAt bs p) (suc e) ∷ []) stray _ stray _ tt
       (λ t. let z8 : sizeAt bs p % 8 ≡ 0 = t .1 .1 .0 in let big : 7 < sizeAt bs p = t .0 in let in-e : p + sizeAt bs p < suc e = t .1 .1 .1 .0 in
       by= (wordAt 4 bs p % 4) (2 * P + 1)
       (λ a. simp ifs (sim-scan k c e (p + sizeAt bs p) 1 n ms ws sum (omega arith) b r (λ x l. fresh x (omega arith))))
@@ -149,22 +195,28 @@ module _ (bs : List ℕ) where
   rep-empty = record {
     long = length-replicate {A = ℕ} 128 0;
     same-bits = λ x. count-nil x ∙ sym (by= (x % 8) 0
-        (λ a. if=-yes (x % 8) 0 _ _ a ∙ ap (λ (v : ℕ). v / 2 ^ (x / 8 % 64) % 2) (zero-at (x / 8 / 64)) ∙ ap (λ (v : ℕ). v % 2) (zero-div (2 ^ (x / 8 % 64))))
+        (λ a. if=-yes (x % 8) 0 _ _ a ∙ ap (λ (v : ℕ). v / 2 ^ (x / 8 % 64) % 2) (zero-at (x / 8 / 64))
+        ∙ ap (λ (v : ℕ). v % 2) (zero-div (2 ^ (x / 8 % 64))))
         (λ a. if=-no (x % 8) 0 _ _ a));
   }
     where
       zero-at : (i : ℕ) → getD {A = ℕ} (replicate 128 0) i 0 ≡ 0
-      zero-at i = by< i 128 (λ l. getD-replicate 128 i 0 0 l) (λ l. let len : length {A = ℕ} (replicate 128 0) ≡ 128 = length-replicate {A = ℕ} 128 0 in let m : length {A = ℕ} (replicate 128 0) ≤ i = omega arith in List·getD-eq-default (replicate 128 0) 0 m)
+      zero-at i = by< i 128 (λ l. getD-replicate 128 i 0 0 l)
+          (λ l. let len : length {A = ℕ} (replicate 128 0) ≡ 128 = length-replicate {A = ℕ} 128 0 in
+          let m : length {A = ℕ} (replicate 128 0) ≤ i = omega arith in List·getD-eq-default (replicate 128 0) 0 m)
 
-  pub sim-scanned : R bs ≤ E bs → E bs ≤ length bs → length bs ≤ 65536 → E bs % 8 ≡ 0 → RepScan (length bs) (scanned listMarks bs) (scanned bitMarks bs)
+  pub sim-scanned : R bs ≤ E bs → E bs ≤ length bs → length bs ≤ 65536 → E bs % 8 ≡ 0
+      → RepScan (length bs) (scanned listMarks bs) (scanned bitMarks bs)
   unfolding scanned
   sim-scanned a b c d =
-      seen-rel (RepScan (length bs)) (R bs) (scan listMarks bs (suc (R bs)) 0 (R bs) 168 1 0 [] 0) (scan bitMarks bs (suc (R bs)) 0 (R bs) 168 1 0 (replicate 128 0) 0)
-      stray (λ n ms sum. scan listMarks bs (suc (length bs)) 1 (length bs) (E bs) 1 n ms sum) stray (λ n ms sum. scan bitMarks bs (suc (length bs)) 1 (length bs) (E bs) 1 n ms sum)
+      seen-rel (RepScan (length bs)) (R bs) (scan listMarks bs (suc (R bs)) 0 (R bs) 168 1 0 [] 0)
+      (scan bitMarks bs (suc (R bs)) 0 (R bs) 168 1 0 (replicate 128 0) 0)
+      stray (λ n ms sum. scan listMarks bs (suc (length bs)) 1 (length bs) (E bs) 1 n ms sum) stray
+      (λ n ms sum. scan bitMarks bs (suc (length bs)) 1 (length bs) (E bs) 1 n ms sum)
       (sim-scan (suc (R bs)) 0 (R bs) 168 1 0 [] (replicate 128 0) 0 refl (omega arith) rep-empty (λ x l. count-nil x)) tt
       (λ n ms ws sum r fresh. sim-scan (suc (length bs)) 1 (length bs) (E bs) 1 n ms ws sum d c r (λ x l. fresh x (omega arith)))
 
-  -- THE INSPECTION OVER BITS
+  -- the whole
   pub sim-inspect : inspect listMarks bs ≡ inspect bitMarks bs
   unfolding inspect lists
   sim-inspect =

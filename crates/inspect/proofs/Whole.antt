@@ -49,7 +49,8 @@ module _ (s : List ℕ) where
 
     front : {v : Scanned (List ℕ)} → v ≡ scanned-between bitMarks s a b (length s) (replicate 128 0) → tail v ≡ false → false ≡ inspected s
     unfolding inspected inspect
-    front e h = sym (guard-same (size-tests s) false _ (guard-same (rest-tests s) false _ (guard-same (false-tests s) false _ (ap tail (sym (scanned-at e)) ∙ h))))
+    front e h = sym (guard-same (size-tests s) false _
+        (guard-same (rest-tests s) false _ (guard-same (false-tests s) false _ (ap tail (sym (scanned-at e)) ∙ h))))
 
     module _ (r : Seen) (m' : List ℕ) (e : to-seen r m' ≡ scanned-between bitMarks s a b (length s) (replicate 128 0)) where
       pub run-bad : not (r .ok) ≡ true → false ≡ inspected s

@@ -5,13 +5,13 @@ use mathlib.Core.List.{List}
 use Prim.Native.Nat.{ℕ, suc, _+_, _≤_}
 use Rattle.paper.specs.Sound.{Sound}
 use Rattle.inspect.specs.MarkSets.{bitMarks}
-use Rattle.inspect.specs.Runs.{Scanned, stray, seen, small, scan}
+use Rattle.inspect.specs.Runs.{Scanned, stray, seen, scan}
 use Rattle.inspect.specs.Lists.{lost, left, Left as Lefts}
 use Rattle.inspect.specs.Inspection.{scanned-between, inspected}
 use Rattle.inspect.specs.declared.lists.Left.{Left}
 use Rattle.inspect.specs.declared.runs.Seen.{Seen}
 
--- THE PROMISE OF THE INSPECTION: its answer is its model's, and it says exactly whether the pool is sound
+-- the promise of the inspection: its answer is the model's, and it says exactly whether the pool is sound
 pub record Inspected (r : Bool) (bs : List ℕ) : Type 0 where
   pub same : r ≡ inspected bs
   pub only : r ≡ true → Sound bs
@@ -32,9 +32,6 @@ pick-seen false n ms sum = stray
 
 abbrev pub to-seen : Seen → List ℕ → Scanned (List ℕ)
 to-seen r ms = pick-seen (r .ok) (r .count) ms (r .sum)
-
-abbrev pub small-of : ℕ → ℕ
-small-of z = small z
 
 -- one run; the count and the sum have room
 pub record Scans (s : List ℕ) (c e from n0 sum0 : ℕ) (m m' : List ℕ) (r : Seen) : Type 0 where

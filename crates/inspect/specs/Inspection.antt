@@ -1,4 +1,4 @@
--- The inspection as the program does it: header, remainder and false block, one pass over the blocks, one along the lists.
+-- The inspection as the code does it: header, remainder and false block, one pass over the blocks, one along the lists.
 use mathlib.Core.Bool.{Bool, true, false}
 use mathlib.Core.List.{List, [], _∷_}
 use Prim.Native.Nat.{ℕ, zero, suc, _+_, _-_, _*_, _%_}
@@ -36,17 +36,23 @@ module _ (bs : List ℕ) where
   -- of the remainder from a to b: where it stands, and its head
   abbrev pub rest-between : ℕ → ℕ → List Test
   rest-between a b =
-      less (blocks-at - 1) a ∷ less (a + 7) b ∷ less b (suc (length bs)) ∷ same (a % 8) 0 ∷ same (b % 8) 0 ∷ same (wordAt 4 bs a) (4 * (b - a) + 2) ∷ []
+      less (blocks-at - 1) a ∷ less (a + 7) b ∷ less b (suc (length bs)) ∷ same (a % 8) 0 ∷ same (b % 8) 0
+      ∷ same (wordAt 4 bs a) (4 * (b - a) + 2) ∷ []
 
   abbrev pub rest-tests : List Test
   rest-tests = rest-between R E
 
-  -- the header's fixed words and the false block
+  -- the header's fixed words, the high halves among them, and the false block
   abbrev pub false-tests : List Test
   false-tests =
-      same (wordAt 4 bs false-word-at) false-block ∷ same (wordAt 4 bs (false-block + level-at)) 1
-      ∷ same (wordAt 4 bs (false-block + chain-at)) (linkWord false-block (nextBin bs false-block)) ∷ same (wordAt 4 bs (false-block + chain-at + 4)) 0
-      ∷ holds (cleared 12 8 4) ∷ holds (cleared 3 4 96) ∷ holds (cleared 12 4 112) ∷ []
+      same (wordAt 4 bs false-word-at) false-block
+      ∷ same (wordAt 4 bs (false-block + level-at)) 1
+      ∷ same (wordAt 4 bs (false-block + chain-at)) (linkWord false-block (nextBin bs false-block))
+      ∷ same (wordAt 4 bs (false-block + chain-at + 4)) 0
+      ∷ holds (cleared 12 8 4)
+      ∷ holds (cleared 3 4 false-block)
+      ∷ holds (cleared 12 4 (false-block + 16))
+      ∷ []
 
 module _ {M : Type 0} (O : MarkSet M) (bs : List ℕ) where
   -- the large blocks from 168 to a, then the small ones from b to e

@@ -16,7 +16,7 @@ pub data Scanned (M : Type 0) : Type 0 where
   stray : Scanned M
   seen : ℕ → M → ℕ → Scanned M
 
--- of the head w at p, in a run of class c (1 for small) that ends at e
+-- of the head w at p, in a run of small blocks (c is 1) or of large ones (c is 0) that ends at e
 abbrev pub fit-words : ℕ → ℕ → ℕ → ℕ → List Test
 fit-words w c e p = less 7 (w / 4) ∷ same (small (w / 4)) c ∷ same (w / 4 % 8) 0 ∷ less (p + w / 4) (suc e) ∷ []
 

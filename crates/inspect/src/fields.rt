@@ -35,7 +35,7 @@ pub fn remainder_ok(pool: &[u8], a: u32, b: u32) -> bool
     words::get32(pool, a as usize) as u64 == 4 * ((b - a) as u64) + 2
 }
 
-// The header's fixed words and the false block: all zero, but for its level word and its chain word.
+// The header's second word, the high half of all twelve, and the false block: zero, but for its level word and its chain word.
 pub fn false_block_ok(pool: &[u8]) -> bool
     ensures { λ r. ⌜ r ≡ pass (false-tests (now (pool .entry))) ⌝ }
 {
@@ -54,10 +54,10 @@ pub fn false_block_ok(pool: &[u8]) -> bool
     if !cleared(pool, 12, 8, 4) {
         return false;
     }
-    if !cleared(pool, 3, 4, 96) {
+    if !cleared(pool, 3, 4, FALSE_BLOCK) {
         return false;
     }
-    cleared(pool, 12, 4, 112)
+    cleared(pool, 12, 4, FALSE_BLOCK + 16)
 }
 
 // The word w at q is a distance as it is written; another word could lead to 0, which is no block.
@@ -68,11 +68,11 @@ pub fn link_ok(q: u32, w: u32) -> bool
 }
 
 // k words from `from` on, st apart, are 0. Past the end all are.
-fn cleared(pool: &[u8], k: u32, st: u32, from: usize) -> bool
+fn cleared(pool: &[u8], k: u32, st: u32, from: u32) -> bool
     ensures { λ r. ⌜ r ≡ cleared-of (now (pool .entry)) k st from ⌝ }
 {
     let mut left = k;
-    let mut at = from;
+    let mut at = from as usize;
     while left != 0 {
         if pool.len() <= at {
             return true;

@@ -1,8 +1,8 @@
 // A run of blocks end to end, read by their heads; each free one is marked, counted and summed.
 ghost use mathlib.Core.Path.{_≡_};
 ghost use Rattle.inspect.specs.Tests.{pass};
-ghost use Rattle.inspect.specs.Runs.{fit-words, free-at};
-ghost use Rattle.inspect.specs.Contract.{small-of, Scans, ScansBoth};
+ghost use Rattle.inspect.specs.Runs.{small, fit-words, free-at};
+ghost use Rattle.inspect.specs.Contract.{Scans, ScansBoth};
 use paper::BLOCKS;
 use paper::LARGE;
 
@@ -27,7 +27,7 @@ pub fn scan_both(pool: &[u8], m: &mut [u64], a: u32, b: u32, e: u32) -> Seen
     scan(pool, m, 1, e, b, lo.count as u32, lo.sum as u32)
 }
 
-// From `from` to e: blocks with the small flag c. f is the flag P that the next head must have.
+// From `from` to e: small blocks where c is 1, large ones where it is 0. f is the flag P that the next head must have.
 fn scan(pool: &[u8], m: &mut [u64], c: u32, e: u32, from: u32, n0: u32, sum0: u32) -> Seen
     ensures { λ r. ⌜ Scans (now (pool .entry)) c e from n0 sum0 (now (m .entry)) (now (m .exit)) r ⌝ }
 {
@@ -76,7 +76,7 @@ fn scan(pool: &[u8], m: &mut [u64], c: u32, e: u32, from: u32, n0: u32, sum0: u3
     }
 }
 
-// The head w at p, in a run with the small flag c that ends at e.
+// The head w at p, in a run that ends at e, of small blocks where c is 1 and of large ones where it is 0.
 fn fits(w: u32, c: u32, e: u32, p: u32) -> bool
     ensures { λ r. ⌜ r ≡ pass (fit-words w c e p) ⌝ }
 {
@@ -95,7 +95,7 @@ fn fits(w: u32, c: u32, e: u32, p: u32) -> bool
 
 // 1 for a small size, 0 for a large one; above a free block it is P.
 fn small_flag(z: u32) -> u32
-    ensures { λ r. ⌜ r ≡ small-of z ⌝ }
+    ensures { λ r. ⌜ r ≡ small z ⌝ }
 {
     if z < LARGE { 1 } else { 0 }
 }

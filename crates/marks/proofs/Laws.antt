@@ -18,7 +18,8 @@ use Rattle.words.specs.Choice.{lt?}
 pub bit-same : (w k c : ℕ) → c < 2 → bit (putBit w k c) k ≡ c
 unfolding putBit
 bit-same w k c h =
-    ap (λ (x : ℕ). x % 2) (mul-add-div-right (pow-pos k) (w / 2 ^ k / 2 * 2 + c) (w % 2 ^ k) ∙ ap (λ (x : ℕ). w / 2 ^ k / 2 * 2 + c + x) (div-eq-of-lt (mod-lt w (pow-pos k))))
+    ap (λ (x : ℕ). x % 2) (mul-add-div-right (pow-pos k) (w / 2 ^ k / 2 * 2 + c) (w % 2 ^ k)
+    ∙ ap (λ (x : ℕ). w / 2 ^ k / 2 * 2 + c + x) (div-eq-of-lt (mod-lt w (pow-pos k))))
     ∙ omega arith
 
 -- what stands above digit k
@@ -26,7 +27,8 @@ above : (w k c : ℕ) → c < 2 → putBit w k c / 2 ^ suc k ≡ w / 2 ^ suc k
 unfolding putBit
 above w k c h =
     let e : putBit w k c / 2 ^ k ≡ w / 2 ^ k / 2 * 2 + c =
-    mul-add-div-right (pow-pos k) (w / 2 ^ k / 2 * 2 + c) (w % 2 ^ k) ∙ ap (λ (x : ℕ). w / 2 ^ k / 2 * 2 + c + x) (div-eq-of-lt (mod-lt w (pow-pos k))) ∙ omega arith in
+    mul-add-div-right (pow-pos k) (w / 2 ^ k / 2 * 2 + c) (w % 2 ^ k)
+    ∙ ap (λ (x : ℕ). w / 2 ^ k / 2 * 2 + c + x) (div-eq-of-lt (mod-lt w (pow-pos k))) ∙ omega arith in
     ap (λ (x : ℕ). putBit w k c / x) (pow-suc 2 k) ∙ sym (div-div-eq-div-mul (putBit w k c) (2 ^ k) 2) ∙ ap (λ (x : ℕ). x / 2) e
     ∙ omega arith
     ∙ div-div-eq-div-mul w (2 ^ k) 2 ∙ ap (λ (x : ℕ). w / x) (sym (pow-suc 2 k))
@@ -35,7 +37,8 @@ above w k c h =
 low-bit : (x y j m : ℕ) → bit (y * 2 ^ (suc m + j) + x) j ≡ bit x j
 low-bit x y j m =
     let e : y * 2 ^ (suc m + j) ≡ y * 2 ^ m * 2 * 2 ^ j =
-    ap (λ (t : ℕ). y * t) (pow-add 2 (suc m) j ∙ ap (λ (t : ℕ). t * 2 ^ j) (pow-suc 2 m)) ∙ sym (mul-assoc y (2 ^ m * 2) (2 ^ j)) ∙ ap (λ (t : ℕ). t * 2 ^ j) (sym (mul-assoc y (2 ^ m) 2)) in
+    ap (λ (t : ℕ). y * t) (pow-add 2 (suc m) j ∙ ap (λ (t : ℕ). t * 2 ^ j) (pow-suc 2 m)) ∙ sym (mul-assoc y (2 ^ m * 2) (2 ^ j))
+    ∙ ap (λ (t : ℕ). t * 2 ^ j) (sym (mul-assoc y (2 ^ m) 2)) in
     ap (λ (t : ℕ). (t + x) / 2 ^ j % 2) e ∙ ap (λ (t : ℕ). t % 2) (mul-add-div-right (pow-pos j) (y * 2 ^ m * 2) x) ∙ omega arith
 
 pub bit-other : (w k c j : ℕ) → c < 2 → j ≢ k → bit (putBit w k c) j ≡ bit w j
@@ -45,7 +48,8 @@ bit-other w k c j h ne = ⊎-elim less more (lt? j k)
     less : j < k → bit (putBit w k c) j ≡ bit w j
     less l =
         let e : suc (k - suc j) + j ≡ k = omega arith in
-        subst (λ (t : ℕ). bit ((w / 2 ^ k / 2 * 2 + c) * 2 ^ t + w % 2 ^ k) j ≡ bit (w % 2 ^ k) j) e (low-bit (w % 2 ^ k) (w / 2 ^ k / 2 * 2 + c) j (k - suc j))
+        subst (λ (t : ℕ). bit ((w / 2 ^ k / 2 * 2 + c) * 2 ^ t + w % 2 ^ k) j ≡ bit (w % 2 ^ k) j) e
+        (low-bit (w % 2 ^ k) (w / 2 ^ k / 2 * 2 + c) j (k - suc j))
         ∙ sym (subst (λ (t : ℕ). bit (w / 2 ^ k * 2 ^ t + w % 2 ^ k) j ≡ bit (w % 2 ^ k) j) e (low-bit (w % 2 ^ k) (w / 2 ^ k) j (k - suc j)))
         ∙ ap (λ (t : ℕ). bit t j) (div-add-mod' w (2 ^ k))
 
@@ -53,7 +57,8 @@ bit-other w k c j h ne = ⊎-elim less more (lt? j k)
     more g =
         let e : suc k + (j - suc k) ≡ j = omega (arith, ne) in
         let p : 2 ^ j ≡ 2 ^ suc k * 2 ^ (j - suc k) = ap (λ (t : ℕ). 2 ^ t) (sym e) ∙ pow-add 2 (suc k) (j - suc k) in
-        let q : (x : ℕ) → x / 2 ^ j ≡ x / 2 ^ suc k / 2 ^ (j - suc k) = λ x. ap (λ (t : ℕ). x / t) p ∙ sym (div-div-eq-div-mul x (2 ^ suc k) (2 ^ (j - suc k))) in
+        let q : (x : ℕ) → x / 2 ^ j ≡ x / 2 ^ suc k / 2 ^ (j - suc k) = λ x. ap (λ (t : ℕ). x / t) p
+        ∙ sym (div-div-eq-div-mul x (2 ^ suc k) (2 ^ (j - suc k))) in
         ap (λ (t : ℕ). t % 2) (q (putBit w k c) ∙ ap (λ (t : ℕ). t / 2 ^ (j - suc k)) (above w k c h) ∙ sym (q w))
 
 -- ---- the set
@@ -107,7 +112,8 @@ unfolding putBit
 sub-put w k =
     let s : w / 2 ^ k / 2 * 2 + w / 2 ^ k % 2 ≡ w / 2 ^ k = omega arith in
     let e : w / 2 ^ k / 2 * 2 * 2 ^ k + w / 2 ^ k % 2 * 2 ^ k + w % 2 ^ k ≡ w =
-    ap (λ (t : ℕ). t + w % 2 ^ k) (sym (add-mul (w / 2 ^ k / 2 * 2) (w / 2 ^ k % 2) (2 ^ k)) ∙ ap (λ (t : ℕ). t * 2 ^ k) s) ∙ div-add-mod' w (2 ^ k) in
+    ap (λ (t : ℕ). t + w % 2 ^ k) (sym (add-mul (w / 2 ^ k / 2 * 2) (w / 2 ^ k % 2) (2 ^ k)) ∙ ap (λ (t : ℕ). t * 2 ^ k) s)
+    ∙ div-add-mod' w (2 ^ k) in
     let z : (w / 2 ^ k / 2 * 2 + 0) * 2 ^ k ≡ w / 2 ^ k / 2 * 2 * 2 ^ k = ap (λ (t : ℕ). t * 2 ^ k) (add-zero (w / 2 ^ k / 2 * 2)) in
     omega (arith, and-bit w k, e, z)
 

@@ -92,7 +92,9 @@ next-last x [] vs h = let e : x ≡ x = refl in simp ifs
 next-last x (y ∷ us) vs h =
     by= x (lastOr y us)
     (λ e. absurd (omega (arith, h x, count-here x (y ∷ us), subst (λ (q : ℕ). 1 ≤ count q (y ∷ us)) (sym e) (last-count y us))))
-    (λ n. simp ifs (next-last y us vs (λ q. by= x q (λ e. omega (arith, h q, subst (λ (q : ℕ). count q (x ∷ y ∷ us) ≡ suc (count q (y ∷ us))) e (count-here x (y ∷ us)))) (λ m. omega (arith, h q, count-there x q (y ∷ us) m)))))
+    (λ n. simp ifs (next-last y us vs
+    (λ q. by= x q (λ e. omega (arith, h q, subst (λ (q : ℕ). count q (x ∷ y ∷ us) ≡ suc (count q (y ∷ us))) e (count-here x (y ∷ us))))
+    (λ m. omega (arith, h q, count-there x q (y ∷ us) m)))))
 
 -- ---- lists by their links
 pub nil-of : (ys : List ℕ) → ((q : ℕ) → count q ys ≡ 0) → ys ≡ []
@@ -114,7 +116,8 @@ by-links [] ys n e f h = sym (nil-of ys (λ q. sym (e q) ∙ count-nil q))
 by-links (x ∷ xs) [] n e f h = absurd (omega (arith, e x, count-here x xs, count-nil x))
 by-links (x ∷ xs) (y ∷ ys) n e f h =
     let ih : xs ≡ ys =
-    by-links xs ys (λ q. omega (arith, n q, count-cons q x xs)) (λ q. omega (arith, e q, count-cons q x xs, count-cons q y ys, ap {B = ℕ} (λ (k : ℕ). if= k q 1 0) f))
+    by-links xs ys (λ q. omega (arith, n q, count-cons q x xs))
+    (λ q. omega (arith, e q, count-cons q x xs, count-cons q y ys, ap {B = ℕ} (λ (k : ℕ). if= k q 1 0) f))
     (tail-first (sym f) (h x (omega (arith, count-here x xs)))) (λ q o. tail-next q (sym f) o (h q (omega (arith, count-cons q x xs)))) in
     λ i. f i ∷ ih i
   where
@@ -159,9 +162,14 @@ next-mem q (x ∷ xs) h =
   where
     here : x ≡ q → (ws : List ℕ) → (first ws ≡ 0) ⊎ ((1 ≤ count (first ws) (x ∷ ws)) × (first ws ≡ q → 2 ≤ count q (x ∷ ws)))
     here e [] = inl refl
-    here e (y ∷ ws) = inr (omega (arith, count-cons y x (y ∷ ws), count-here y ws), λ f. omega (arith, count-cons q x (y ∷ ws), count-cons q y ws, if=-yes {A = ℕ} x q 1 0 e, if=-yes {A = ℕ} y q 1 0 f))
+    here e (y ∷ ws) = inr (
+      omega (arith, count-cons y x (y ∷ ws), count-here y ws),
+      λ f. omega
+          (arith, count-cons q x (y ∷ ws), count-cons q y ws, if=-yes {A = ℕ} x q 1 0 e, if=-yes {A = ℕ} y q 1 0 f),
+    )
 
-    there : (v : ℕ) → (v ≡ 0) ⊎ ((1 ≤ count v xs) × ((v ≡ q) → 2 ≤ count q xs)) → (v ≡ 0) ⊎ ((1 ≤ count v (x ∷ xs)) × ((v ≡ q) → 2 ≤ count q (x ∷ xs)))
+    there : (v : ℕ) → (v ≡ 0) ⊎ ((1 ≤ count v xs) × ((v ≡ q) → 2 ≤ count q xs))
+        → (v ≡ 0) ⊎ ((1 ≤ count v (x ∷ xs)) × ((v ≡ q) → 2 ≤ count q (x ∷ xs)))
     there v (inl e) = inl e
     there v (inr k) = inr (omega (arith, k .0, count-cons v x xs), λ f. omega (arith, k .1 f, count-cons q x xs))
 

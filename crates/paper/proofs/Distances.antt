@@ -6,7 +6,7 @@ use native.Mathlib.Omega.{arith}
 use Rattle.heads.specs.Links.{followed, linkWord}
 use Rattle.words.specs.Choice.{by=, if=, if=-no, if=-yes, ifs}
 
--- ---- distances
+-- ---- in a pool of at most 65,536 bytes
 pub linkWord-inj : (q v v' : ℕ) → q ≤ 65536 → v ≤ 65536 → v' ≤ 65536 → v ≢ q → v' ≢ q → linkWord q v ≡ linkWord q v' → v ≡ v'
 unfolding linkWord
 linkWord-inj q v v' a b c n n' e =

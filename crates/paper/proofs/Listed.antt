@@ -16,7 +16,8 @@ pub freeAt-append : (xs ys : List Block) (p y q : ℕ) → freeAt (xs ++ ys) p y
 unfolding freeAt
 freeAt-append [] ys p y q = omega (arith, ap (λ (k : ℕ). freeAt ys k y q) (add-zero p))
 freeAt-append (block z held ∷ xs) ys p y q = freeAt-append xs ys (p + z) y q ∙ ap (λ (k : ℕ). freeAt xs (p + z) y q + freeAt ys k y q) (omega arith)
-freeAt-append (block z remainder ∷ xs) ys p y q = freeAt-append xs ys (p + z) y q ∙ ap (λ (k : ℕ). freeAt xs (p + z) y q + freeAt ys k y q) (omega arith)
+freeAt-append (block z remainder ∷ xs) ys p y q = freeAt-append xs ys (p + z) y q
+    ∙ ap (λ (k : ℕ). freeAt xs (p + z) y q + freeAt ys k y q) (omega arith)
 freeAt-append (block z free ∷ xs) ys p y q = omega (arith, freeAt-append xs ys (p + z) y q, ap (λ (k : ℕ). freeAt ys k y q) (assoc p z (total xs)))
   where
     assoc : (a b c : ℕ) → a + b + c ≡ a + (b + c)
@@ -29,7 +30,8 @@ freeAt-below (block z held ∷ xs) p y q l = freeAt-below xs (p + z) y q (omega 
 freeAt-below (block z remainder ∷ xs) p y q l = freeAt-below xs (p + z) y q (omega arith)
 freeAt-below (block z free ∷ xs) p y q l =
     let n : p ≢ q = omega arith in
-    by= z y (λ e. simp ifs (omega (arith, freeAt-below xs (p + z) y q (omega arith)))) (λ e. simp ifs (omega (arith, freeAt-below xs (p + z) y q (omega arith))))
+    by= z y (λ e. simp ifs (omega (arith, freeAt-below xs (p + z) y q (omega arith))))
+    (λ e. simp ifs (omega (arith, freeAt-below xs (p + z) y q (omega arith))))
 
 pub freeAt-once : (xs : List Block) (p y q : ℕ) → Sized xs → freeAt xs p y q ≤ 1
 unfolding freeAt
@@ -38,7 +40,8 @@ freeAt-once (block z held ∷ xs) p y q s = freeAt-once xs (p + z) y q (s .1)
 freeAt-once (block z remainder ∷ xs) p y q s = freeAt-once xs (p + z) y q (s .1)
 freeAt-once (block z free ∷ xs) p y q s =
     by= z y
-    (λ e. by= p q (λ f. simp ifs (omega (arith, freeAt-below xs (p + z) y q (omega arith)))) (λ f. simp ifs (omega (arith, freeAt-once xs (p + z) y q (s .1)))))
+    (λ e. by= p q (λ f. simp ifs (omega (arith, freeAt-below xs (p + z) y q (omega arith))))
+    (λ f. simp ifs (omega (arith, freeAt-once xs (p + z) y q (s .1)))))
     (λ e. simp ifs (omega (arith, freeAt-once xs (p + z) y q (s .1))))
 
 pub freeAt-in : (xs : List Block) (p P y q : ℕ) → 1 ≤ freeAt xs p y q → (P' : ℕ) × In xs p P q (block y free) P'
@@ -49,8 +52,10 @@ freeAt-in (block z remainder ∷ xs) p P y q h = let r = freeAt-in xs (p + z) 1 
 freeAt-in (block z free ∷ xs) p P y q h =
     by= z y
     (λ e. by= p q (λ f. (P, inl (sym f, ap (λ (k : ℕ). block k free) (sym e), refl)))
-    (λ f. let h' : 1 ≤ 0 + freeAt xs (p + z) y q = simp ifs at h in let r = freeAt-in xs (p + z) (flagAbove (block z free)) y q (omega arith) in (r .0, inr (r .1))))
-    (λ e. let h' : 1 ≤ 0 + freeAt xs (p + z) y q = simp ifs at h in let r = freeAt-in xs (p + z) (flagAbove (block z free)) y q (omega arith) in (r .0, inr (r .1)))
+    (λ f. let h' : 1 ≤ 0 + freeAt xs (p + z) y q = simp ifs at h in let r = freeAt-in xs (p + z) (flagAbove (block z free)) y q (omega arith) in
+    (r .0, inr (r .1))))
+    (λ e. let h' : 1 ≤ 0 + freeAt xs (p + z) y q = simp ifs at h in let r = freeAt-in xs (p + z) (flagAbove (block z free)) y q (omega arith) in
+    (r .0, inr (r .1)))
 
 unfoldable pub rebin : (ℕ → List ℕ) → ℕ → List ℕ → ℕ → List ℕ
 rebin f z l y = if= y z l (f y)
@@ -75,8 +80,12 @@ module _ (s : State) (W : Loose s) where
   -- where a listed block is
   pub start : (y q : ℕ) → 1 ≤ count q (s .bins y) → (168 ≤ q) × (q + y ≤ end s) × (q % 8 ≡ 0)
   start y q h =
-      let f = W .found y q h in
-      (in-low (blocks s) 168 1 q (block y free) (f .0) (f .1), in-high (blocks s) 168 1 q (block y free) (f .0) (f .1), in-aligned (blocks s) 168 1 q (block y free) (f .0) (W .sized) refl (f .1))
+      let f = W .found y q h in (
+        in-low (blocks s) 168 1 q (block y free) (f .0) (f .1),
+        in-high (blocks s) 168 1 q (block y free) (f .0) (f .1),
+        in-aligned (blocks s) 168 1 q
+            (block y free) (f .0) (W .sized) refl (f .1),
+      )
 
 pub loose : (s : State) → WellFormed s → Loose s
 loose s W =

@@ -40,7 +40,12 @@ module _ (bs : List ℕ) (s : State) (W : WellFormed s) (l : length bs ≡ end s
       reads q (headWord z k P) (omega arith) (omega arith) (omega (arith, W .fits, heldBit-le k)) (at-head s q z k P i (omega arith))
 
   pub end-big : 176 ≤ end s
-  end-big = omega (arith, sized-parts (s .low) (block (s .rest) remainder ∷ s .high) (W .sized) .1 .0 .0, total-append (s .low) (block (s .rest) remainder ∷ s .high))
+  end-big = omega (
+    arith,
+    sized-parts (s .low) (block (s .rest) remainder ∷ s .high) (W .sized) .1 .0 .0,
+    total-append (s .low)
+        (block (s .rest) remainder ∷ s .high),
+  )
 
   pub header-reads : (w : ℕ) → w < 12 → headerWord s w < 256 ^ 4 → wordAt 4 bs (8 * w) ≡ headerWord s w
   unfolding sheet
@@ -69,8 +74,10 @@ module _ (bs : List ℕ) (s : State) (W : WellFormed s) (l : length bs ≡ end s
         small,
         apart (m .0) (m .2) (st .0),
         (λ y72. reads (q + 4) (m .0) (omega arith) (omega arith) (omega arith)
-            (at-block s q (block y free) (f .0) 4 (f .1) (omega arith) ∙ if=-no 4 0 _ _ (omega arith) ∙ if<-yes y 72 _ _ y72 ∙ if=-yes 4 4 _ _ refl ∙ m .1)),
-        (λ y72. reads (q + 8) (linkWord q (m .0)) (omega arith) (omega arith) (linkWord-small q (m .0)) (at-on s q y (f .0) (f .1) y72 ∙ ap (link q) (m .1))),
+            (at-block s q (block y free) (f .0) 4 (f .1) (omega arith) ∙ if=-no 4 0 _ _ (omega arith) ∙ if<-yes y 72 _ _ y72 ∙ if=-yes 4 4 _ _ refl
+            ∙ m .1)),
+        (λ y72. reads (q + 8) (linkWord q (m .0)) (omega arith) (omega arith) (linkWord-small q (m .0))
+            (at-on s q y (f .0) (f .1) y72 ∙ ap (link q) (m .1))),
       )
     where
       bound : (v : ℕ) → (v ≡ 0) ⊎ ((1 ≤ count v (s .bins y)) × ((v ≡ q) → 2 ≤ count q (s .bins y))) → v ≤ 65536
@@ -91,7 +98,9 @@ module _ (bs : List ℕ) (s : State) (W : WellFormed s) (l : length bs ≡ end s
       let st = start-of y q o in
       let f = loose s W .found y q o in
       reads (q + 4) 0 (omega arith) (omega arith) (omega arith)
-      (at-back s q y (f .0) (f .1) y72 ∙ ap (link q) (subst (λ (v : ℕ). prevIn 0 (s .bins y) v ≡ some 0) e (prev-of-first 0 (s .bins y) (omega (arith, st .0)))) ∙ ap some (if=-yes 0 0 _ _ refl))
+      (at-back s q y (f .0) (f .1) y72
+      ∙ ap (link q) (subst (λ (v : ℕ). prevIn 0 (s .bins y) v ≡ some 0) e (prev-of-first 0 (s .bins y) (omega (arith, st .0))))
+      ∙ ap some (if=-yes 0 0 _ _ refl))
 
   pub first-reads : (y q : ℕ) → 72 ≤ y → 1 ≤ count q (s .bins y) → wordAt 4 bs (q + 4) ≡ 0 → first (s .bins y) ≡ q
   unfolding linkWord
@@ -100,8 +109,10 @@ module _ (bs : List ℕ) (s : State) (W : WellFormed s) (l : length bs ≡ end s
       let f = loose s W .found y q o in
       let m = prev-some 0 q (s .bins y) (omega (arith, st .0)) o in
       let b : m .0 ≤ 65536 = bound (m .0) (prev-mem 0 q (m .0) (s .bins y) (m .1)) in
-      let d : wordAt 4 bs (q + 4) ≡ linkWord q (m .0) = reads (q + 4) (linkWord q (m .0)) (omega arith) (omega arith) (linkWord-small q (m .0)) (at-back s q y (f .0) (f .1) y72 ∙ ap (link q) (m .1)) in
-      let z : m .0 ≡ 0 = linkWord-inj q (m .0) 0 (omega arith) b (omega arith) (m .2) (omega (arith, st .0)) (sym d ∙ e ∙ sym (if=-yes 0 0 _ _ refl)) in
+      let d : wordAt 4 bs (q + 4) ≡ linkWord q (m .0) = reads (q + 4) (linkWord q (m .0)) (omega arith) (omega arith) (linkWord-small q (m .0))
+      (at-back s q y (f .0) (f .1) y72 ∙ ap (link q) (m .1)) in
+      let z : m .0 ≡ 0 = linkWord-inj q (m .0) 0 (omega arith) b (omega arith) (m .2) (omega (arith, st .0))
+      (sym d ∙ e ∙ sym (if=-yes 0 0 _ _ refl)) in
       prev-first 0 q (s .bins y) (no-zero y) (m .1 ∙ ap some z)
     where
       bound : (v : ℕ) → (v ≡ 0) ⊎ (1 ≤ count v (s .bins y)) → v ≤ 65536
@@ -113,9 +124,11 @@ module _ (bs : List ℕ) (s : State) (W : WellFormed s) (l : length bs ≡ end s
   unfolding headerWord
   small-reads y a b c =
       let w : ℕ = y / 8 + 3 in
-      let n0 : y / 8 + 3 ≢ 0 = omega arith in let n1 : y / 8 + 3 ≢ 1 = omega arith in let n2 : y / 8 + 3 ≢ 2 = omega arith in let n3 : y / 8 + 3 ≢ 3 = omega arith in
+      let n0 : y / 8 + 3 ≢ 0 = omega arith in let n1 : y / 8 + 3 ≢ 1 = omega arith in let n2 : y / 8 + 3 ≢ 2 = omega arith in
+      let n3 : y / 8 + 3 ≢ 3 = omega arith in
       let e : headerWord s (y / 8 + 3) ≡ first (s .bins y) = simp ifs (ap (λ (k : ℕ). first (s .bins k)) (omega arith)) in
-      let f : first (s .bins y) ≤ 65536 = by= (first (s .bins y)) 0 (λ k. omega arith) (λ k. omega (arith, start-of y (first (s .bins y)) (first-count (s .bins y) (first (s .bins y)) refl k))) in
+      let f : first (s .bins y) ≤ 65536 = by= (first (s .bins y)) 0 (λ k. omega arith)
+      (λ k. omega (arith, start-of y (first (s .bins y)) (first-count (s .bins y) (first (s .bins y)) refl k))) in
       ap (wordAt 4 bs) (omega arith) ∙ header-reads (y / 8 + 3) (omega arith) (omega arith) ∙ e
 
   pub low-reads : wordAt 4 bs 16 ≡ 168 + total (s .low)

@@ -35,7 +35,8 @@ unfolding seek
 seek-gap g z nz zero y a b h = absurd (omega arith)
 seek-gap g z nz (suc k) y a b h =
     by= y z (λ e. let m : g y ≢ 0 = (λ o. nz (ap g (sym e) ∙ o)) in simp ifs (ap g e))
-    (λ n. let o : g y ≡ 0 = h y (omega arith) (omega arith) in simp ifs (seek-gap g z nz k (suc y) (omega arith) (omega arith) (λ u c d. h u (omega arith) d)))
+    (λ n. let o : g y ≡ 0 = h y (omega arith) (omega arith) in
+    simp ifs (seek-gap g z nz k (suc y) (omega arith) (omega arith) (λ u c d. h u (omega arith) d)))
 
 -- what a walk along the index learns: the next one, with nothing between; or that there is none
 pub seek-spec : (g : ℕ → ℕ) (k y : ℕ) → seek g k y ≢ 0 → (z : ℕ) × (y ≤ z) × (g z ≡ seek g k y) × ((u : ℕ) → y ≤ u → u < z → g u ≡ 0)

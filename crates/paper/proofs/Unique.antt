@@ -41,7 +41,8 @@ high-no-remainder (block z held ∷ xs) h = high-no-remainder xs (h .1)
 high-no-remainder (block z free ∷ xs) h = high-no-remainder xs (h .1)
 high-no-remainder (block z remainder ∷ xs) h = h
 
-same-head : (z z' P : ℕ) (k k' : Kind) (xs xs' : List Block) → NoRemainder (block z k ∷ xs) → NoRemainder (block z' k' ∷ xs') → headWord z k P ≡ headWord z' k' P
+same-head : (z z' P : ℕ) (k k' : Kind) (xs xs' : List Block) → NoRemainder (block z k ∷ xs) → NoRemainder (block z' k' ∷ xs')
+    → headWord z k P ≡ headWord z' k' P
     → (block z k ≡ block z' k') × (NoRemainder xs × NoRemainder xs')
 same-head z z' P held held xs xs' a b e = (ap (λ (w : ℕ). block w held) (omega arith), (a, b))
 same-head z z' P held free xs xs' a b e = absurd (omega arith)
@@ -65,7 +66,8 @@ same-list f (block z k ∷ xs) (block z' k' ∷ xs') p P n n' s s' t h h' =
     (λ q w l P' i. h' q w l P' (inr (subst (λ (b : Block). In xs' (p + size b) (flagAbove b) q (block w l) P') (r .0) i))) in
     λ i. r .0 i ∷ ih i
 
-module _ (bs : List ℕ) (s s' : State) (W : WellFormed s) (W' : WellFormed s') (l : length bs ≡ end s) (l' : length bs ≡ end s') (h : Holds (sheet s) bs) (h' : Holds (sheet s') bs) where
+module _ (bs : List ℕ) (s s' : State) (W : WellFormed s) (W' : WellFormed s') (l : length bs ≡ end s) (l' : length bs ≡ end s')
+    (h : Holds (sheet s) bs) (h' : Holds (sheet s') bs) where
   same-total : total (s .low) ≡ total (s' .low)
   same-total = omega (arith, low-reads bs s W l h, low-reads bs s' W' l' h')
 
@@ -81,9 +83,17 @@ module _ (bs : List ℕ) (s s' : State) (W : WellFormed s) (W' : WellFormed s') 
 
   same-high : s .high ≡ s' .high
   same-high =
-      same-list (wordAt 4 bs) (s .high) (s' .high) (168 + total (s .low) + s .rest) 1 (high-no-remainder (s .high) (W .high-ok)) (high-no-remainder (s' .high) (W' .high-ok))
+      same-list (wordAt 4 bs) (s .high) (s' .high) (168 + total (s .low) + s .rest) 1 (high-no-remainder (s .high) (W .high-ok))
+      (high-no-remainder (s' .high) (W' .high-ok))
       (sized-parts (s .low) _ (W .sized) .1 .1) (sized-parts (s' .low) _ (W' .sized) .1 .1)
-      (omega (arith, same-total, same-rest, total-append (s .low) (block (s .rest) remainder ∷ s .high), total-append (s' .low) (block (s' .rest) remainder ∷ s' .high)))
+      (omega (
+        arith,
+        same-total,
+        same-rest,
+        total-append (s .low) (block (s .rest) remainder ∷ s .high),
+        total-append (s' .low)
+            (block (s' .rest) remainder ∷ s' .high),
+      ))
       (λ q z k P i. head-reads bs s W l h q z k P (in-mid (s .low) (block (s .rest) remainder ∷ s .high) 168 1 q (block z k) P (inr i)))
       (λ q z k P i. head-reads bs s' W' l' h' q z k P (in-mid (s' .low) (block (s' .rest) remainder ∷ s' .high) 168 1 q (block z k) P
       (inr (subst (λ (n : ℕ). In (s' .high) n 1 q (block z k) P) (omega (arith, same-total, same-rest)) i))))
@@ -107,11 +117,18 @@ module _ (bs : List ℕ) (s s' : State) (W : WellFormed s) (W' : WellFormed s') 
   same-first y =
       by= (first (s .bins y)) 0
       (λ e. by= (first (s' .bins y)) 0 (λ e'. e ∙ sym e')
-      (λ n. absurd (omega (arith, empty (s .bins y) (first (s' .bins y)) e (no-zero bs s W l h y), same-count y (first (s' .bins y)), first-count (s' .bins y) (first (s' .bins y)) refl n))))
+      (λ n. absurd (omega (
+        arith,
+        empty (s .bins y) (first (s' .bins y)) e (no-zero bs s W l h y),
+        same-count y (first (s' .bins y)),
+        first-count
+            (s' .bins y) (first (s' .bins y)) refl n,
+      ))))
       (λ n. let o = first-count (s .bins y) (first (s .bins y)) refl n in
       let st = start-of bs s W l h y (first (s .bins y)) o in
       by< y 72 (λ c. sym (small-reads bs s W l h y (st .3) (omega arith) (st .4)) ∙ small-reads bs s' W' l' h' y (st .3) (omega arith) (st .4))
-      (λ c. sym (first-reads bs s' W' l' h' y (first (s .bins y)) c (omega (arith, same-count y (first (s .bins y)))) (back-reads bs s W l h y (first (s .bins y)) c o refl))))
+      (λ c. sym (first-reads bs s' W' l' h' y (first (s .bins y)) c (omega (arith, same-count y (first (s .bins y))))
+      (back-reads bs s W l h y (first (s .bins y)) c o refl))))
 
   pub same-state : s ≡ s'
   same-state = λ i. record {

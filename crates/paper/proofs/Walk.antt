@@ -81,7 +81,8 @@ freeSum-append (block z remainder ∷ xs) ys = omega (arith, freeSum-append xs y
 
 pub in-mid : (xs ys : List Block) (p P q : ℕ) (b : Block) (P' : ℕ) → In ys (p + total xs) (flagPast P xs) q b P' → In (xs ++ ys) p P q b P'
 in-mid [] ys p P q b P' h = subst (λ (k : ℕ). In ys k P q b P') (omega arith) h
-in-mid (c ∷ xs) ys p P q b P' h = inr (in-mid xs ys (p + size c) (flagAbove c) q b P' (subst (λ (k : ℕ). In ys k (flagPast (flagAbove c) xs) q b P') (omega arith) h))
+in-mid (c ∷ xs) ys p P q b P' h = inr
+    (in-mid xs ys (p + size c) (flagAbove c) q b P' (subst (λ (k : ℕ). In ys k (flagPast (flagAbove c) xs) q b P') (omega arith) h))
 
 pub flagAbove-le : (b : Block) → flagAbove b ≤ 1
 flagAbove-le (block z held) = omega arith
@@ -106,12 +107,14 @@ pub sized-append : (xs ys : List Block) → Sized xs → Sized ys → Sized (xs 
 sized-append [] ys h k = k
 sized-append (b ∷ xs) ys h k = (h .0, sized-append xs ys (h .1) k)
 
-pub in-split : (xs ys : List Block) (p P q : ℕ) (b : Block) (P' : ℕ) → In (xs ++ ys) p P q b P' → In xs p P q b P' ⊎ In ys (p + total xs) (flagPast P xs) q b P'
+pub in-split : (xs ys : List Block) (p P q : ℕ) (b : Block) (P' : ℕ) → In (xs ++ ys) p P q b P'
+    → In xs p P q b P' ⊎ In ys (p + total xs) (flagPast P xs) q b P'
 in-split [] ys p P q b P' h = inr (subst (λ (k : ℕ). In ys k P q b P') (omega arith) h)
 in-split (c ∷ xs) ys p P q b P' (inl h) = inl (inl h)
 in-split (c ∷ xs) ys p P q b P' (inr h) = go (in-split xs ys (p + size c) (flagAbove c) q b P' h)
   where
-    go : In xs (p + size c) (flagAbove c) q b P' ⊎ In ys (p + size c + total xs) (flagPast (flagAbove c) xs) q b P' → In (c ∷ xs) p P q b P' ⊎ In ys (p + (size c + total xs)) (flagPast (flagAbove c) xs) q b P'
+    go : In xs (p + size c) (flagAbove c) q b P' ⊎ In ys (p + size c + total xs) (flagPast (flagAbove c) xs) q b P'
+        → In (c ∷ xs) p P q b P' ⊎ In ys (p + (size c + total xs)) (flagPast (flagAbove c) xs) q b P'
     go (inl i) = inl (inr i)
     go (inr i) = inr (subst (λ (k : ℕ). In ys k (flagPast (flagAbove c) xs) q b P') (omega arith) i)
 

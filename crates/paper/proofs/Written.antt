@@ -21,7 +21,8 @@ pub getD-mapAt : (f : ℕ → ℕ → ℕ) (k : ℕ) (xs : List ℕ) (i : ℕ) �
 unfolding mapAt
 getD-mapAt f k [] i h = absurd (not-suc-le-zero h)
 getD-mapAt f k (x ∷ xs) zero h = ap (λ (j : ℕ). f j x) (sym (add-zero k))
-getD-mapAt f k (x ∷ xs) (suc i) h = getD-mapAt f (suc k) xs i (le-of-suc-le-suc h) ∙ ap (λ (j : ℕ). f j (getD xs i 0)) (suc-add k i ∙ sym (add-suc k i))
+getD-mapAt f k (x ∷ xs) (suc i) h = getD-mapAt f (suc k) xs i (le-of-suc-le-suc h)
+    ∙ ap (λ (j : ℕ). f j (getD xs i 0)) (suc-add k i ∙ sym (add-suc k i))
 
 pub length-write : (g : Sheet) (bs : List ℕ) → length (write g bs) ≡ length bs
 unfolding write
@@ -32,7 +33,8 @@ unfolding write
 getD-write g bs i h = getD-mapAt (byte g) 0 bs i h ∙ ap (λ (k : ℕ). byte g k (getD bs i 0)) (zero-add i)
 
 -- two lists are equal that are as long and agree at each byte: by a sheet's bytes
-pub is-write : (g : Sheet) (bs cs : List ℕ) → length cs ≡ length bs → ((i : ℕ) → i < length bs → getD cs i 0 ≡ byte g i (getD bs i 0)) → cs ≡ write g bs
+pub is-write : (g : Sheet) (bs cs : List ℕ) → length cs ≡ length bs → ((i : ℕ) → i < length bs → getD cs i 0 ≡ byte g i (getD bs i 0))
+    → cs ≡ write g bs
 is-write g bs cs l h =
     ext-getD 0 cs (write g bs) (l ∙ sym (length-write g bs)) (λ i b. let m : i < length bs = omega arith in h i m ∙ sym (getD-write g bs i m))
 
@@ -92,14 +94,16 @@ over-at none j x y k = k refl
 over-at (some v) j x y k = refl
 
 -- a sheet hides every change at the words that it governs: it is enough that the others are as they were
-pub write-over : (g : Sheet) (bs cs : List ℕ) → length cs ≡ length bs → ((i : ℕ) → i < length bs → g (i / 4 * 4) ≡ none → getD cs i 0 ≡ getD bs i 0) → write g cs ≡ write g bs
+pub write-over : (g : Sheet) (bs cs : List ℕ) → length cs ≡ length bs → ((i : ℕ) → i < length bs → g (i / 4 * 4) ≡ none → getD cs i 0 ≡ getD bs i 0)
+    → write g cs ≡ write g bs
 unfolding byte
 write-over g bs cs l k =
     is-write g bs (write g cs) (length-write g cs ∙ l)
     (λ i b. getD-write g cs i (omega arith) ∙ over-at (g (i / 4 * 4)) (i % 4) (getD cs i 0) (getD bs i 0) (k i b))
 
 -- a phase changes nothing where its sheet has nothing new
-pub phase-keeps : (g g' : Sheet) (bs : List ℕ) (i : ℕ) → Holds g bs → i < length bs → (g' (i / 4 * 4) ≡ none) ⊎ (g' (i / 4 * 4) ≡ g (i / 4 * 4)) → getD (write g' bs) i 0 ≡ getD bs i 0
+pub phase-keeps : (g g' : Sheet) (bs : List ℕ) (i : ℕ) → Holds g bs → i < length bs → (g' (i / 4 * 4) ≡ none) ⊎ (g' (i / 4 * 4) ≡ g (i / 4 * 4))
+    → getD (write g' bs) i 0 ≡ getD bs i 0
 unfolding Holds byte
 phase-keeps g g' bs i h b (inl e) = write-keeps g' bs i b e
 phase-keeps g g' bs i h b (inr e) =
@@ -116,7 +120,8 @@ ok-from bs a (some v) h = h v refl
 
 pick-ok : (bs : List ℕ) (i : ℕ) (o : Option ℕ) → Bytes bs → Ok bs (i / 4 * 4) o → getD bs i 0 ≡ pick o (i % 4) (getD bs i 0)
 pick-ok bs i none h k = refl
-pick-ok bs i (some v) h k = ap (λ (j : ℕ). getD bs j 0) (omega arith) ∙ sym (octet-word 4 bs (i / 4 * 4) (i % 4) h (omega arith)) ∙ ap (λ (w : ℕ). octet w (i % 4)) k
+pick-ok bs i (some v) h k = ap (λ (j : ℕ). getD bs j 0) (omega arith) ∙ sym (octet-word 4 bs (i / 4 * 4) (i % 4) h (omega arith))
+    ∙ ap (λ (w : ℕ). octet w (i % 4)) k
 
 pub holds-from : (g : Sheet) (bs : List ℕ) → Bytes bs → ((a : ℕ) → a % 4 ≡ 0 → a < length bs → Ok bs a (g a)) → Holds g bs
 unfolding Holds byte

@@ -1,11 +1,4 @@
--- "Bytes of the pool": the governed words of a state, by address.
---
---     0 .. 95     twelve words of 8 bytes: free word; 96; R; E; the first block of each small bin 8, 16, .. 64, or 0
---     96 .. 167   the false block: all zero, but the level word at +12 and the chain word at +64 (the index words, where the index is higher)
---     168 .. n    the blocks:  +0 head
---                   small free:  +4 next of its bin, an offset in the pool
---                   large free:  +4 +8 links to the previous and next of its bin;  -4 the head again
---                   first of a large bin:  +12 level word;  +68 - 4 j the index word of level j, so +64 the chain word
+-- "Bytes of the pool": the governed words of a state, by address; src/layout.rt draws them. A header word has 8 bytes, and its high half is 0.
 use mathlib.Core.List.{List, [], _∷_}
 use mathlib.Core.Option.{Option, none, some}
 use Prim.Native.Nat.{ℕ, zero, suc, _+_, _-_, _*_, _/_, _%_, min}
@@ -56,18 +49,20 @@ module _ (t n : ℕ) (bins : ℕ → List ℕ) where
   unfoldable pub above : ℕ → ℕ → ℕ
   above j y = seek (reach j) n (suc y)
 
-  -- level word and index words of the first block of a bin: it starts at p, has size y and height h; d stands at the other words
+  -- level word and index words of the first block of a bin: it starts at p and has size y and height h. Level j's word stands 4 bytes
+  -- below that of level j - 1, and level 1's is the chain word. d stands at the other words
   unfoldable pub index : Option ℕ → ℕ → ℕ → ℕ → ℕ → Option ℕ
   index d h p y o =
       if= o level-at (some h) (if< o (chain-at + 4 - 4 * h) d (if< chain-at o d (some (linkWord p (above ((chain-at + 4 - o) / 4) y)))))
 
-  -- word o of the free large block at p, of size z
+  -- word o of the free large block at p, of size z: links to both sides, the head again at its end, and the index words in a bin's first
   unfoldable pub largeWord : ℕ → ℕ → ℕ → ℕ → Option ℕ
   largeWord p z P o =
       if= o previous-at (link p (prevIn 0 (bins z) p))
       (if= o next-at (link p (nextIn (bins z) p))
       (if= o (z - 4) (some (headWord z free P)) (if= (first (bins z)) p (index none (height t z) p z o) none)))
 
+  -- "at +4, the next block of its bin as an offset in the pool, 0 at the end"
   unfoldable pub smallWord : ℕ → ℕ → ℕ → Option ℕ
   smallWord p z o = if= o small-next-at (nextIn (bins z) p) none
 
@@ -82,11 +77,12 @@ module _ (t n : ℕ) (bins : ℕ → List ℕ) where
 
 -- ---- the pool
 
--- the walk from p, where P is due, to the block that has address a
+-- the walk from p, where the flag P is due, to the block that has address a
 unfoldable pub walk : (ℕ → Block → ℕ → ℕ → Option ℕ) → List Block → ℕ → ℕ → ℕ → Option ℕ
 walk f [] p P a = none
 walk f (b ∷ xs) p P a = if< a (p + size b) (f p b P (a - p)) (walk f xs (p + size b) (flagAbove b) a)
 
+-- "free word; 96; remainder start R; remainder end E; then the first block of each small bin 8, 16, .. 64, or 0"
 unfoldable pub headerWord : State → ℕ → ℕ
 headerWord s w =
     if= w 0 (freeSum (blocks s) - 4)

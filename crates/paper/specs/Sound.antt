@@ -41,7 +41,8 @@ freeAt (block z held ∷ xs) p y q = freeAt xs (p + z) y q
 freeAt (block z remainder ∷ xs) p y q = freeAt xs (p + z) y q
 freeAt (block z free ∷ xs) p y q = if= z y (if= p q 1 0) 0 + freeAt xs (p + z) y q
 
--- `listed`: "Each free block but the remainder stands in its bin once, and nothing else does."
+-- "All this": the layout is one of two, the runs of blocks are as they should be, and `listed`:
+-- "Each free block but the remainder stands in its bin once, and nothing else does."
 pub record WellFormed (s : State) : Type 0 where
   pub layout : (s .top ≡ 1) ⊎ (s .top ≡ 13)
   pub low-ok : Low (s .low)
@@ -50,7 +51,7 @@ pub record WellFormed (s : State) : Type 0 where
   pub fits : end s ≤ 65536
   pub listed : (y q : ℕ) → count q (s .bins y) ≡ freeAt (blocks s) blocks-at y q
 
--- sound, with an index t high
+-- sound, with an index t high: the blocks and lists are those of `state`, which the bytes determine
 pub record SoundTo (t : ℕ) (bs : List ℕ) : Type 0 where
   pub length-allowed : Allowed (length bs)
   pub state : State

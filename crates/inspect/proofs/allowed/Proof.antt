@@ -1,6 +1,6 @@
 -- `allowed` follows the paper's three bounds.
 use mathlib.Core.Path.{_≡_, sym, _∙_}
-use mathlib.Core.Bool.{true, false}
+use mathlib.Core.Bool.{false}
 use Prim.Native.Nat.{ℕ, _%_, _≤_, _<_}
 use lib.Dec.{eqb}
 use borrow.Author.Tests.{eq-eqb, ne-eqb}
@@ -26,4 +26,5 @@ within n h k =
 pub allowed-spec : {M : Type 1} → statement M
 allowed-spec =
     tie.close
-    (tie.spec (λ c. short _ (c .if1 .taken)) (λ c. long _ (c .before .if1 .left) (c .if2 .taken)) (λ c. within _ (c .before .if1 .left) (c .if2 .left)))
+    (tie.spec (λ c. short _ (c .if1 .taken)) (λ c. long _ (c .before .if1 .left) (c .if2 .taken))
+    (λ c. within _ (c .before .if1 .left) (c .if2 .left)))

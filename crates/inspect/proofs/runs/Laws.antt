@@ -24,16 +24,19 @@ use Rattle.inspect.specs.declared.runs.Seen.{Seen}
 pub fit-last : (w c e p : ℕ) {d : ℕ} → 8 ≤ w / 4 → d ≡ small (w / 4) → d ≡ c → w / 4 % 8 ≡ 0 → leb (p + w / 4) e ≡ pass (fit-words w c e p)
 fit-last w c e p a ed dc z8 =
     pass-is (fit-words w c e p) (leb (p + w / 4) e)
-    (λ h. (omega arith, (sym ed ∙ dc, (z8, (omega (arith, leb-true (p + w / 4) e h), tt))))) (λ t. le-leb (p + w / 4) e (omega (arith, t .1 .1 .1 .0)))
+    (λ h. (omega arith, (sym ed ∙ dc, (z8, (omega (arith, leb-true (p + w / 4) e h), tt)))))
+    (λ t. le-leb (p + w / 4) e (omega (arith, t .1 .1 .1 .0)))
 
 -- what has passed
 pub fit-facts : (w c e p : ℕ) {b : Bool} → b ≡ pass (fit-words w c e p) → not b ≡ false → (8 ≤ w / 4) × (p + w / 4 ≤ e)
-fit-facts w c e p h i = let r = guard-inv (fit-words w c e p) false true true no-both (passed h i) .0 in (omega (arith, r .0), omega (arith, r .1 .1 .1 .0))
+fit-facts w c e p h i = let r = guard-inv (fit-words w c e p) false true true no-both (passed h i) .0 in
+    (omega (arith, r .0), omega (arith, r .1 .1 .1 .0))
 
 pub free-small : (s : List ℕ) (w f p : ℕ) → f ≡ 1 → w % 4 ≡ 2 → w / 4 < 72 → true ≡ pass (free-at s w f p)
 free-small s w f p a b l = pass-is (free-at s w f p) true (λ h. (a, (b, (if<-yes (w / 4) 72 _ _ l, tt)))) (λ t. refl)
 
-pub free-large : (s : List ℕ) (w f p : ℕ) {u : ℕ} → f ≡ 1 → w % 4 ≡ 2 → 72 ≤ w / 4 → u ≡ wordAt 4 s (p + (w / 4 - 4)) → eqb u w ≡ pass (free-at s w f p)
+pub free-large : (s : List ℕ) (w f p : ℕ) {u : ℕ} → f ≡ 1 → w % 4 ≡ 2 → 72 ≤ w / 4 → u ≡ wordAt 4 s (p + (w / 4 - 4))
+    → eqb u w ≡ pass (free-at s w f p)
 free-large s w f p {u} a b l e =
     let ft : footOf s w p ≡ u = if<-no (w / 4) 72 _ _ l ∙ sym e in
     pass-is (free-at s w f p) (eqb u w) (λ h. (a, (b, (ft ∙ eqb-true _ _ h, tt)))) (λ t. eq-eqb _ _ (sym ft ∙ t .1 .1 .0))
@@ -52,7 +55,17 @@ pub record Scanning (s m₀ : List ℕ) (c e from n0 sum0 : ℕ) (m : List ℕ) 
 
 pub begin : (s m : List ℕ) (c e from n0 sum0 : ℕ) → from < 4294967296 → Scanning s m c e from n0 sum0 m from 1 n0 sum0
 begin s m c e from n0 sum0 a =
-    record { long = refl; small-p = a; small-f = omega arith; few = omega arith; less-sum = omega arith; fuel = suc e; enough = omega arith; all = refl }
+    record {
+      long = refl;
+      small-p = a;
+      small-f = omega arith;
+      few = omega arith;
+      less-sum = omega arith;
+      fuel = suc e;
+      enough = omega arith;
+      all =
+          refl;
+    }
 
 module _ (s : List ℕ) (c e : ℕ) where
   at-end : (k p f n : ℕ) (m : List ℕ) (sum : ℕ) → p ≡ e → e < p + k → f ≡ 1 → scan bitMarks s k c e p f n m sum ≡ seen n m sum
@@ -75,7 +88,8 @@ module _ (s : List ℕ) (c e : ℕ) where
   unfolding scan
   unfree zero p f n m sum h i j l = refl
   unfree (suc k) p f n m sum h i j l =
-      if=-no p e _ _ h ∙ guard-pass (fit-tests s c e p) stray _ i ∙ if=-no (wordAt 4 s p % 4) (2 * f + 1) _ _ j ∙ guard-fail (free-tests s f p) stray _ l
+      if=-no p e _ _ h ∙ guard-pass (fit-tests s c e p) stray _ i ∙ if=-no (wordAt 4 s p % 4) (2 * f + 1) _ _ j
+      ∙ guard-fail (free-tests s f p) stray _ l
 
   past-held : (k p f n : ℕ) (m : List ℕ) (sum : ℕ) → (p ≡ e → ⊥) → pass (fit-tests s c e p) ≡ true → wordAt 4 s p % 4 ≡ 2 * f + 1
       → scan bitMarks s (suc k) c e p f n m sum ≡ scan bitMarks s k c e (p + wordAt 4 s p / 4) 1 n m sum
@@ -84,10 +98,12 @@ module _ (s : List ℕ) (c e : ℕ) where
 
   past-free : (k p f n : ℕ) (m : List ℕ) (sum : ℕ) → (p ≡ e → ⊥) → pass (fit-tests s c e p) ≡ true → (wordAt 4 s p % 4 ≡ 2 * f + 1 → ⊥)
       → pass (free-tests s f p) ≡ true
-      → scan bitMarks s (suc k) c e p f n m sum ≡ scan bitMarks s k c e (p + wordAt 4 s p / 4) c (suc n) (putBitAt m (p / 8) 1) (sum + wordAt 4 s p / 4)
+      → scan bitMarks s (suc k) c e p f n m sum ≡ scan bitMarks s k c e (p + wordAt 4 s p / 4) c (suc n) (putBitAt m (p / 8) 1)
+      (sum + wordAt 4 s p / 4)
   unfolding scan
   past-free k p f n m sum h i j l =
-      if=-no p e _ _ h ∙ guard-pass (fit-tests s c e p) stray _ i ∙ if=-no (wordAt 4 s p % 4) (2 * f + 1) _ _ j ∙ guard-pass (free-tests s f p) stray _ l
+      if=-no p e _ _ h ∙ guard-pass (fit-tests s c e p) stray _ i ∙ if=-no (wordAt 4 s p % 4) (2 * f + 1) _ _ j
+      ∙ guard-pass (free-tests s f p) stray _ l
 
 -- the code's tests are of the word that it read
 fit-at : (s : List ℕ) (c e p : ℕ) {b : Bool} {w : ℕ} → w ≡ wordAt 4 s p → b ≡ pass (fit-words w c e p) → b ≡ pass (fit-tests s c e p)
@@ -166,5 +182,6 @@ module _ (s m m' : List ℕ) (a b e : ℕ) (r : Seen) (h : to-seen r m' ≡ scan
   pub both-lost : not (r .ok) ≡ true → stray ≡ scanned-between bitMarks s a b e m
   both-lost i = sym (ap on (sym h) ∙ ap (λ (c : Bool). on (pick-seen c (r .count) m' (r .sum))) (not-true (r .ok) i))
 
-  pub both-on : {x : Scanned (List ℕ)} → not (r .ok) ≡ false → x ≡ scan bitMarks s (suc e) 1 e b 1 (r .count) m' (r .sum) → x ≡ scanned-between bitMarks s a b e m
+  pub both-on : {x : Scanned (List ℕ)} → not (r .ok) ≡ false → x ≡ scan bitMarks s (suc e) 1 e b 1 (r .count) m' (r .sum)
+      → x ≡ scanned-between bitMarks s a b e m
   both-on i ex = ex ∙ sym (ap on (sym h) ∙ ap (λ (c : Bool). on (pick-seen c (r .count) m' (r .sum))) (not-false (r .ok) i))

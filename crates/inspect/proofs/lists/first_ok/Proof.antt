@@ -3,7 +3,7 @@ use native.Mathlib.Omega.{arith}
 use borrow.Author.Needs.{needs}
 use Rattle.inspect.specs.Lists.{first-words}
 use Rattle.inspect.proofs.Guards.{pass-no}
-use Rattle.inspect.proofs.lists.Laws.{first-last}
+use Rattle.inspect.proofs.lists.Members.{first-last}
 use Rattle.inspect.proofs.lists.first_ok.Statement.{statement}
 use Rattle.inspect.proofs.lists.first_ok.Tie as tie
 

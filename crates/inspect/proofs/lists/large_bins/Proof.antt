@@ -1,6 +1,6 @@
 -- `large_bins`: the invariant says that the whole chain is the chain from here.
 use borrow.Author.Needs.{needs}
-use Rattle.inspect.proofs.lists.Laws.{Chained, chain-start, chain-done, chain-bad, chain-lost, bin-less, chain-on}
+use Rattle.inspect.proofs.lists.LargeBins.{Chained, chain-start, chain-done, chain-bad, chain-lost, bin-less, chain-on}
 use Rattle.inspect.proofs.lists.large_bins.Statement.{statement}
 use Rattle.inspect.proofs.lists.large_bins.Tie as tie
 
@@ -12,33 +12,41 @@ abbrev μ-loop : tie.MeasureT-loop
 
 unfit : tie.Need-returns Inv-loop μ-loop
 unfit c =
-    chain-bad (c .before .before .before .before .before .before .loop .inv) (c .before .before .before .before .before .loop-test .taken) (c .before .before .before .before .get32 .ensures)
+    chain-bad (c .before .before .before .before .before .before .loop .inv) (c .before .before .before .before .before .loop-test .taken)
+    (c .before .before .before .before .get32 .ensures)
     (c .before .before .before .field .ensures) (c .before .before .field2 .ensures) (c .before .first-ok .ensures) (c .if1 .taken)
 
 lose : tie.Need-returns-2 Inv-loop μ-loop
 lose c =
     let d = c .before .before .before .before .before .before in
-    chain-lost (d .before .before .before .before .before .before .loop .inv) (d .before .before .before .before .before .loop-test .taken) (d .before .before .before .before .get32 .ensures)
+    chain-lost (d .before .before .before .before .before .before .loop .inv) (d .before .before .before .before .before .loop-test .taken)
+    (d .before .before .before .before .get32 .ensures)
     (d .before .before .before .field .ensures) (d .before .before .field2 .ensures) (d .before .first-ok .ensures) (d .if1 .left)
     (c .before .before .before .before .follow-large .result) _ (c .before .before .before .before .follow-large .ensures) (c .if2 .taken)
 
 fewer : tie.Need-loop-less Inv-loop μ-loop
 fewer c =
     let d = c .before .before .before .before .before .before .before in
-    bin-less (d .before .before .before .before .before .before .loop .inv) (d .before .before .before .before .before .loop-test .taken) (d .before .before .before .before .get32 .ensures)
+    bin-less (d .before .before .before .before .before .before .loop .inv) (d .before .before .before .before .before .loop-test .taken)
+    (d .before .before .before .before .get32 .ensures)
     (d .before .before .before .field .ensures) (d .before .before .field2 .ensures) (d .before .first-ok .ensures) (d .if1 .left)
-    (c .before .before .before .before .before .follow-large .result) _ (c .before .before .before .before .before .follow-large .ensures) (c .before .if2 .left)
+    (c .before .before .before .before .before .follow-large .result) _ (c .before .before .before .before .before .follow-large .ensures)
+    (c .before .if2 .left)
 
 more : tie.Need-loop-again Inv-loop μ-loop
 more c =
     let d = c .before .before .before .before .before .before .before in
-    chain-on (d .before .before .before .before .before .before .loop .inv) (d .before .before .before .before .before .loop-test .taken) (d .before .before .before .before .get32 .ensures)
+    chain-on (d .before .before .before .before .before .before .loop .inv) (d .before .before .before .before .before .loop-test .taken)
+    (d .before .before .before .before .get32 .ensures)
     (d .before .before .before .field .ensures) (d .before .before .field2 .ensures) (d .before .first-ok .ensures) (d .if1 .left)
-    (c .before .before .before .before .before .follow-large .result) _ (c .before .before .before .before .before .follow-large .ensures) (c .before .if2 .left)
+    (c .before .before .before .before .before .follow-large .result) _ (c .before .before .before .before .before .follow-large .ensures)
+    (c .before .if2 .left)
     (search needs) (c .follow .ensures) (search needs)
 
 pub large-bins-spec : {M : Type 1} → statement M
 large-bins-spec =
     tie.close
-    (tie.spec Inv-loop μ-loop (λ c. chain-start _ _ _ _ (search needs)) (λ c. search needs) (λ c κs. search needs) (λ c κs. search needs) (λ c κs. search needs) (λ c κs. search needs)
-    (λ c. search needs) unfit (λ c κs. search needs) (λ c. search needs) lose (λ c κs. search needs) fewer more (λ c. search needs) (λ c. search chain-done))
+    (tie.spec Inv-loop μ-loop (λ c. chain-start _ _ _ _ (search needs)) (λ c. search needs) (λ c κs. search needs) (λ c κs. search needs)
+    (λ c κs. search needs) (λ c κs. search needs)
+    (λ c. search needs) unfit (λ c κs. search needs) (λ c. search needs) lose (λ c κs. search needs) fewer more (λ c. search needs)
+    (λ c. search chain-done))

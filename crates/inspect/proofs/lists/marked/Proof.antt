@@ -1,6 +1,6 @@
 -- `marked` is the bit, where there is one.
 use borrow.Author.Needs.{needs}
-use Rattle.inspect.proofs.lists.Laws.{mark-yes, mark-no}
+use Rattle.inspect.proofs.lists.Members.{mark-yes, mark-no}
 use Rattle.inspect.proofs.lists.marked.Statement.{statement}
 use Rattle.inspect.proofs.lists.marked.Tie as tie
 

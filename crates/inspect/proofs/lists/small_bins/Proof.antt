@@ -1,7 +1,7 @@
 -- `small_bins`: the invariant says that all eight bins are the bins from here.
 use Prim.Native.Nat.{_-_}
 use borrow.Author.Needs.{needs}
-use Rattle.inspect.proofs.lists.Laws.{Bins, bins-start, bins-done, bins-lost, bins-on}
+use Rattle.inspect.proofs.lists.SmallBins.{Bins, bins-start, bins-done, bins-lost, bins-on}
 use Rattle.inspect.proofs.lists.small_bins.Statement.{statement}
 use Rattle.inspect.proofs.lists.small_bins.Tie as tie
 
@@ -26,5 +26,6 @@ more c =
 pub small-bins-spec : {M : Type 1} → statement M
 small-bins-spec =
     tie.close
-    (tie.spec Inv-loop μ-loop (λ c. bins-start _ _ _) (λ c κs. search needs) (λ c κs. search needs) (λ c. search needs) lose (λ c. search needs) (λ c. search needs) more
+    (tie.spec Inv-loop μ-loop (λ c. bins-start _ _ _) (λ c κs. search needs) (λ c κs. search needs) (λ c. search needs) lose (λ c. search needs)
+    (λ c. search needs) more
     (λ c. search needs) (λ c. search bins-done))

@@ -1,5 +1,5 @@
 -- `fits`: a failing test refuses, whatever stands before it; the last one decides.
-use mathlib.Core.Path.{sym, _∙_}
+use mathlib.Core.Path.{_∙_}
 use native.Mathlib.Omega.{arith}
 use borrow.Author.Needs.{needs}
 use Rattle.inspect.specs.Runs.{fit-words}

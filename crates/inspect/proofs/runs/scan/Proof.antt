@@ -17,12 +17,14 @@ unfit c =
     record {
       few = search needs;
       less-sum = search needs;
-      all = scan-unfit (c .before .before .before .before .loop .inv) (c .before .before .before .loop-test .taken) (c .before .before .get32 .ensures) (c .before .fits2 .ensures) (c .if1 .taken);
+      all = scan-unfit (c .before .before .before .before .loop .inv) (c .before .before .before .loop-test .taken)
+          (c .before .before .get32 .ensures) (c .before .fits2 .ensures) (c .if1 .taken);
     }
 
 past-held : tie.Need-loop-again Inv-loop μ-loop
 past-held c =
-    scan-held (c .before .before .before .before .before .loop .inv) (c .before .before .before .before .loop-test .taken) (c .before .before .before .get32 .ensures)
+    scan-held (c .before .before .before .before .before .loop .inv) (c .before .before .before .before .loop-test .taken)
+    (c .before .before .before .get32 .ensures)
     (c .before .before .fits2 .ensures) (c .before .if1 .left) (search needs) (c .if2 .taken)
 
 not-free : tie.Need-returns-2 Inv-loop μ-loop
@@ -30,28 +32,45 @@ not-free c =
     record {
       few = search needs;
       less-sum = search needs;
-      all = scan-unfree (c .before .before .before .before .before .before .before .loop .inv) (c .before .before .before .before .before .before .loop-test .taken)
-          (c .before .before .before .before .before .get32 .ensures) (c .before .before .before .before .fits2 .ensures) (c .before .before .before .if1 .left)
+      all = scan-unfree (c .before .before .before .before .before .before .before .loop .inv)
+          (c .before .before .before .before .before .before .loop-test .taken)
+          (c .before .before .before .before .before .get32 .ensures) (c .before .before .before .before .fits2 .ensures)
+          (c .before .before .before .if1 .left)
           (c .before .before .if2 .left) (c .before .free-ok .ensures) (c .if3 .taken);
     }
 
 past-free : tie.Need-loop-again-2 Inv-loop μ-loop
 past-free c =
     let d = c .before .before .before .before in
-    scan-free (d .before .before .before .before .before .before .before .loop .inv) (d .before .before .before .before .before .before .loop-test .taken)
-    (d .before .before .before .before .before .get32 .ensures) (d .before .before .before .before .fits2 .ensures) (d .before .before .before .if1 .left)
+    scan-free (d .before .before .before .before .before .before .before .loop .inv)
+    (d .before .before .before .before .before .before .loop-test .taken)
+    (d .before .before .before .before .before .get32 .ensures) (d .before .before .before .before .fits2 .ensures)
+    (d .before .before .before .if1 .left)
     (d .before .before .if2 .left) (d .before .free-ok .ensures) (search needs) (search needs) (d .if3 .left) (c .before .before .put-in .ensures)
 
 pub scan-spec : {M : Type 1} → statement M
 scan-spec =
     tie.close
-    (tie.spec Inv-loop μ-loop (λ c. begin _ _ _ _ _ _ _ (search needs)) (λ c. search needs) (λ c κs. search needs) (λ c κs. search needs) (λ c. search needs) unfit
+    (tie.spec Inv-loop μ-loop (λ c. begin _ _ _ _ _ _ _ (search needs)) (λ c. search needs) (λ c κs. search needs) (λ c κs. search needs)
+    (λ c. search needs) unfit
     (λ c. search needs) (λ c. search needs) (λ c. search needs) (λ c. search needs)
     (λ c. omega (arith, fit-facts _ _ _ _ (c .before .before .fits2 .ensures) (c .before .if1 .left)))
     (λ c. omega (arith, fit-facts _ _ _ _ (c .before .before .fits2 .ensures) (c .before .if1 .left)))
     past-held (λ c κs. search needs) (λ c. search needs) not-free (λ c. search needs) (λ c κs. search needs) (λ c. search needs) (λ c. search needs)
-    (λ c. omega (arith, fit-facts _ _ _ _ (c .before .before .before .before .before .before .before .before .fits2 .ensures) (c .before .before .before .before .before .before .before .if1 .left)))
-    (λ c. omega (arith, fit-facts _ _ _ _ (c .before .before .before .before .before .before .before .before .fits2 .ensures) (c .before .before .before .before .before .before .before .if1 .left)))
-    (λ c. omega (arith, fit-facts _ _ _ _ (c .before .before .before .before .before .before .before .before .fits2 .ensures) (c .before .before .before .before .before .before .before .if1 .left)))
+    (λ c. omega (
+      arith,
+      fit-facts _ _ _ _ (c .before .before .before .before .before .before .before .before .fits2 .ensures)
+          (c .before .before .before .before .before .before .before .if1 .left),
+    ))
+    (λ c. omega (
+      arith,
+      fit-facts _ _ _ _ (c .before .before .before .before .before .before .before .before .fits2 .ensures)
+          (c .before .before .before .before .before .before .before .if1 .left),
+    ))
+    (λ c. omega (
+      arith,
+      fit-facts _ _ _ _ (c .before .before .before .before .before .before .before .before .fits2 .ensures)
+          (c .before .before .before .before .before .before .before .if1 .left),
+    ))
     past-free (λ c. search needs) (λ c. record { few = search needs; less-sum = search needs; all = search scan-bad-end }) (λ c. search needs)
     (λ c. record { few = search needs; less-sum = search needs; all = search scan-done }))

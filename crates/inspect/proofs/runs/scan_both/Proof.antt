@@ -14,5 +14,6 @@ scan-both-spec =
     (λ c. let d = c .before .before .before .before .before .before .before .before .before .before in
     record {
       less-sum = search needs;
-      all = both-on _ _ _ _ _ _ (d .scan .result) (d .scan .ensures .all) (c .before .before .before .before .before .before .if1 .left) (c .before .before .scan2 .ensures .all);
+      all = both-on _ _ _ _ _ _ (d .scan .result) (d .scan .ensures .all) (c .before .before .before .before .before .before .if1 .left)
+          (c .before .before .scan2 .ensures .all);
     }))

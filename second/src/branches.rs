@@ -1,0 +1,408 @@
+//! Which branches of the rules a request takes, seen from the state before it and the answer.
+//! Random tapes are only worth their number if none of these stays at 0.
+
+use crate::rules::{need, Refusal};
+use crate::state::{Bins, Block, State, GREATEST_POOL, GREATEST_SMALL, LEAST_LARGE, LOW_RUN};
+use crate::tape::Request;
+use std::collections::BTreeMap;
+
+pub type Outcome = Result<(State, usize), Refusal>;
+
+/// Places in a list or in the chain, in the order in which names are listed.
+const PLACES: [&str; 4] = ["alone", "first", "in the middle", "last"];
+
+/// Every branch in the order of the table; `@` stands for each of the four places.
+const NAMES: [&str; 74] = [
+    "lay out: the first pool",
+    "lay out: over an old pool",
+    "lay out: refused 1, no pool yet",
+    "lay out: refused 1, the old pool stays",
+    "take: refused 1, no pool yet",
+    "give back: refused 1, no pool yet",
+    "figures: refused 1, no pool yet",
+    "figures: done",
+    "record refused 7: other kind",
+    "record refused 7: short body",
+    "take: refused 3",
+    "take small: first of its bin, alone",
+    "take small: first of its bin, others behind it",
+    "take small: cut from the remainder",
+    "take small: cut from the remainder, 8 left",
+    "take small: refused 4, a larger small bin has blocks",
+    "take small: refused 4, a free large block would hold it",
+    "take small: refused 4, only the remainder is free",
+    "take large: exact bin, first alone",
+    "take large: exact bin, second of two",
+    "take large: exact bin, second of three or more",
+    "take large: exact bin emptied, in the chain @",
+    "take large: split of a bin's first",
+    "take large: split of the second of two",
+    "take large: split of the second of three or more",
+    "take large: split bin emptied, in the chain @",
+    "take large: split leaves exactly 72",
+    "take large: rest enters an empty bin, in the chain @",
+    "take large: rest enters a bin of one",
+    "take large: rest enters a bin of two or more",
+    "take large: split, a bin below b + 72 passed over",
+    "take large: remainder's low end, no free large block",
+    "take large: remainder's low end, smaller bins only",
+    "take large: remainder's low end, a bin below b + 72 passed over",
+    "take large: remainder's low end, 8 left",
+    "take large: refused 4, a free large block is larger (the 144 rule)",
+    "take large: refused 4, scattered room would do",
+    "take large: refused 4, the remainder is exactly b",
+    "take large: refused 4, all free room is too little",
+    "take large: refused 4, b above 65,536",
+    "give back: refused 5, past n",
+    "give back: refused 5, below 168",
+    "give back: refused 5, 4 past R",
+    "give back: refused 5, elsewhere in the remainder",
+    "give back: refused 5, 4 past a free small block",
+    "give back: refused 5, 4 past a free large block",
+    "give back: refused 5, elsewhere in a free block",
+    "give back: refused 5, a held block's start",
+    "give back: refused 5, inside a held block",
+    "give back small: into an empty bin",
+    "give back small: into a bin with blocks",
+    "give back large: no neighbour free",
+    "give back large: below free",
+    "give back large: above free",
+    "give back large: both free",
+    "give back large: below stands in its bin @",
+    "give back large: above stands in its bin @",
+    "give back large: both in one bin, below then above, first and second",
+    "give back large: both in one bin, below then above, further on",
+    "give back large: both in one bin, above then below, first and second",
+    "give back large: both in one bin, above then below, further on",
+    "give back large: both in one bin, others between",
+    "give back large: both are their whole bin",
+    "give back large: both head neighbouring bins, below's smaller",
+    "give back large: both head neighbouring bins, above's smaller",
+    "give back large: both are neighbouring bins, below's smaller",
+    "give back large: both are neighbouring bins, above's smaller",
+    "give back large: single block enters an empty bin, in the chain @",
+    "give back large: joined run enters an empty bin, in the chain @",
+    "give back large: single block enters a bin of one",
+    "give back large: single block enters a bin of two or more",
+    "give back large: joined run enters a bin with blocks",
+    "give back large: into the remainder, none free below",
+    "give back large: into the remainder, a free block below",
+];
+
+/// Branches that a call takes on a pool image, where there is no tape and always a pool.
+pub fn of_a_pool(name: &str) -> bool {
+    let call = name.starts_with("take") || name.starts_with("give back");
+    call && !name.contains("no pool yet")
+}
+
+fn expanded(name: &str) -> Vec<String> {
+    if name.contains('@') {
+        PLACES.iter().map(|place| name.replace('@', place)).collect()
+    } else {
+        vec![name.to_string()]
+    }
+}
+
+pub struct Counts {
+    taken: BTreeMap<String, u64>,
+}
+
+impl Counts {
+    pub fn new() -> Counts {
+        let names = NAMES.iter().flat_map(|name| expanded(name));
+        Counts { taken: names.map(|name| (name, 0)).collect() }
+    }
+
+    fn add(&mut self, name: &str) {
+        *self.taken.get_mut(name).unwrap_or_else(|| panic!("branch {:?} is not listed", name)) += 1;
+    }
+
+    fn add_at(&mut self, name: &str, place: usize) {
+        self.add(&name.replace('@', PLACES[place]));
+    }
+
+    /// Name and count in the order of the list.
+    pub fn table(&self) -> Vec<(String, u64)> {
+        let names = NAMES.iter().flat_map(|name| expanded(name));
+        names.map(|name| (name.clone(), self.taken[&name])).collect()
+    }
+
+    pub fn unreadable(&mut self, short_body: bool) {
+        let name = if short_body { "short body" } else { "other kind" };
+        self.add(&format!("record refused 7: {}", name));
+    }
+
+    /// Counts one request; `outcome` is there for takes and give-backs on a pool.
+    pub fn observe(&mut self, before: Option<&State>, request: Request, outcome: Option<&Outcome>) {
+        match (before, request, outcome) {
+            (Some(state), Request::Take(s), Some(outcome)) => self.take(state, s, outcome),
+            (Some(state), Request::GiveBack(offset), Some(outcome)) => {
+                self.give_back(state, offset, outcome)
+            }
+            (_, Request::LayOut(n), _) => self.lay_out(before.is_some(), n),
+            (None, Request::Take(_), _) => self.add("take: refused 1, no pool yet"),
+            (None, Request::GiveBack(_), _) => self.add("give back: refused 1, no pool yet"),
+            (None, Request::Figures, _) => self.add("figures: refused 1, no pool yet"),
+            _ => self.add("figures: done"),
+        }
+    }
+
+    fn lay_out(&mut self, pool: bool, n: u32) {
+        self.add(match (crate::state::allowed(n as usize), pool) {
+            (true, false) => "lay out: the first pool",
+            (true, true) => "lay out: over an old pool",
+            (false, false) => "lay out: refused 1, no pool yet",
+            (false, true) => "lay out: refused 1, the old pool stays",
+        });
+    }
+
+    fn take(&mut self, before: &State, s: u32, outcome: &Outcome) {
+        let size = need(s);
+        match outcome {
+            Err(Refusal::SizeZero) => self.add("take: refused 3"),
+            Err(_) if size <= GREATEST_SMALL => self.small_refused(before, size),
+            Err(_) => self.large_refused(before, size),
+            Ok(_) if size <= GREATEST_SMALL => self.small_taken(before, size),
+            Ok((after, _)) => self.large_taken(before, after, size),
+        }
+    }
+
+    fn small_taken(&mut self, before: &State, size: usize) {
+        match before.small_bins.get(&size).map(Vec::len) {
+            Some(1) => self.add("take small: first of its bin, alone"),
+            Some(_) => self.add("take small: first of its bin, others behind it"),
+            None if before.remainder_size() == size + 8 => {
+                self.add("take small: cut from the remainder, 8 left")
+            }
+            None => self.add("take small: cut from the remainder"),
+        }
+    }
+
+    fn small_refused(&mut self, before: &State, size: usize) {
+        let larger_bin = before.small_bins.range(size + 1..).next().is_some();
+        if larger_bin {
+            self.add("take small: refused 4, a larger small bin has blocks");
+        }
+        if !before.large_bins.is_empty() {
+            self.add("take small: refused 4, a free large block would hold it");
+        }
+        if before.free().next().is_none() {
+            self.add("take small: refused 4, only the remainder is free");
+        }
+    }
+
+    fn large_refused(&mut self, before: &State, size: usize) {
+        let greatest = before.large_bins.keys().next_back().copied().unwrap_or(0);
+        if size > GREATEST_POOL {
+            self.add("take large: refused 4, b above 65,536");
+        } else if greatest > size {
+            self.add("take large: refused 4, a free large block is larger (the 144 rule)");
+        } else if before.remainder_size() == size {
+            self.add("take large: refused 4, the remainder is exactly b");
+        } else if before.free_word() + 4 >= size {
+            self.add("take large: refused 4, scattered room would do");
+        } else {
+            self.add("take large: refused 4, all free room is too little");
+        }
+    }
+
+    fn large_taken(&mut self, before: &State, after: &State, size: usize) {
+        let bins = &before.large_bins;
+        if let Some(starts) = bins.get(&size) {
+            self.add(match starts.len() {
+                1 => "take large: exact bin, first alone",
+                2 => "take large: exact bin, second of two",
+                _ => "take large: exact bin, second of three or more",
+            });
+            if starts.len() == 1 {
+                let place = chain_place(bins, size);
+                self.add_at("take large: exact bin emptied, in the chain @", place);
+            }
+        } else if let Some((whole, _)) = bins.range(size + LEAST_LARGE..).next() {
+            self.split(before, after, size, *whole);
+        } else {
+            self.low_end(before, size);
+        }
+    }
+
+    fn split(&mut self, before: &State, after: &State, size: usize, whole: usize) {
+        let bins = &before.large_bins;
+        self.add(match bins[&whole].len() {
+            1 => "take large: split of a bin's first",
+            2 => "take large: split of the second of two",
+            _ => "take large: split of the second of three or more",
+        });
+        if bins[&whole].len() == 1 {
+            self.add_at("take large: split bin emptied, in the chain @", chain_place(bins, whole));
+        }
+        if whole == size + LEAST_LARGE {
+            self.add("take large: split leaves exactly 72");
+        }
+        if passed_over(bins, size) {
+            self.add("take large: split, a bin below b + 72 passed over");
+        }
+        match after.large_bins[&(whole - size)].len() {
+            1 => {
+                let place = chain_place(&after.large_bins, whole - size);
+                self.add_at("take large: rest enters an empty bin, in the chain @", place);
+            }
+            2 => self.add("take large: rest enters a bin of one"),
+            _ => self.add("take large: rest enters a bin of two or more"),
+        }
+    }
+
+    fn low_end(&mut self, before: &State, size: usize) {
+        let bins = &before.large_bins;
+        self.add(if bins.is_empty() {
+            "take large: remainder's low end, no free large block"
+        } else if passed_over(bins, size) {
+            "take large: remainder's low end, a bin below b + 72 passed over"
+        } else {
+            "take large: remainder's low end, smaller bins only"
+        });
+        if before.remainder_size() == size + 8 {
+            self.add("take large: remainder's low end, 8 left");
+        }
+    }
+
+    fn give_back(&mut self, before: &State, offset: u32, outcome: &Outcome) {
+        let after = match outcome {
+            Ok((after, _)) => after,
+            Err(_) => return self.give_back_refused(before, offset as usize),
+        };
+        let start = offset as usize - 4;
+        if let Some(block) = before.high.iter().find(|block| block.start == start) {
+            let empty = !before.small_bins.contains_key(&block.size);
+            let bin = if empty { "an empty bin" } else { "a bin with blocks" };
+            return self.add(&format!("give back small: into {}", bin));
+        }
+        let index = before.low.iter().position(|block| block.start == start).unwrap();
+        let below = index.checked_sub(1).map(|i| before.low[i]).filter(|block| !block.held);
+        let above = before.low.get(index + 1).copied().filter(|block| !block.held);
+        self.neighbours(&before.large_bins, below, above);
+        self.run_goes(before, after, index, below, above);
+    }
+
+    fn give_back_refused(&mut self, before: &State, offset: usize) {
+        let start = offset.wrapping_sub(4);
+        let (r, e) = (before.remainder_start(), before.remainder_end());
+        let around = before.blocks().find(|block| block.start <= offset && offset < block.end());
+        let place = match around {
+            _ if offset >= before.n => "past n",
+            _ if offset < LOW_RUN => "below 168",
+            _ if start == r => "4 past R",
+            _ if r <= offset && offset < e => "elsewhere in the remainder",
+            Some(block) if !block.held && start == block.start => {
+                if block.size <= GREATEST_SMALL {
+                    "4 past a free small block"
+                } else {
+                    "4 past a free large block"
+                }
+            }
+            Some(block) if !block.held => "elsewhere in a free block",
+            Some(block) if offset == block.start => "a held block's start",
+            _ => "inside a held block",
+        };
+        self.add(&format!("give back: refused 5, {}", place));
+    }
+
+    fn neighbours(&mut self, bins: &Bins, below: Option<Block>, above: Option<Block>) {
+        self.add(match (below, above) {
+            (None, None) => "give back large: no neighbour free",
+            (Some(_), None) => "give back large: below free",
+            (None, Some(_)) => "give back large: above free",
+            (Some(_), Some(_)) => "give back large: both free",
+        });
+        if let Some(block) = below {
+            self.add_at("give back large: below stands in its bin @", list_place(bins, block));
+        }
+        if let Some(block) = above {
+            self.add_at("give back large: above stands in its bin @", list_place(bins, block));
+        }
+        if let (Some(below), Some(above)) = (below, above) {
+            if below.size == above.size {
+                self.both_in_one_bin(&bins[&below.size], below, above);
+            } else {
+                self.both_in_two_bins(bins, below, above);
+            }
+        }
+    }
+
+    fn both_in_one_bin(&mut self, starts: &[usize], below: Block, above: Block) {
+        let i = starts.iter().position(|start| *start == below.start).unwrap();
+        let j = starts.iter().position(|start| *start == above.start).unwrap();
+        if starts.len() == 2 {
+            self.add("give back large: both are their whole bin");
+        }
+        if i.abs_diff(j) > 1 {
+            return self.add("give back large: both in one bin, others between");
+        }
+        let order = if i < j { "below then above" } else { "above then below" };
+        let place = if i.min(j) == 0 { "first and second" } else { "further on" };
+        self.add(&format!("give back large: both in one bin, {}, {}", order, place));
+    }
+
+    fn both_in_two_bins(&mut self, bins: &Bins, below: Block, above: Block) {
+        let (small, large) = (below.size.min(above.size), below.size.max(above.size));
+        let neighbours = bins.range(small + 1..large).next().is_none();
+        let heads = bins[&below.size][0] == below.start && bins[&above.size][0] == above.start;
+        let whole = bins[&below.size].len() == 1 && bins[&above.size].len() == 1;
+        let which = if below.size < above.size { "below's" } else { "above's" };
+        if neighbours && whole {
+            self.add(&format!("give back large: both are neighbouring bins, {} smaller", which));
+        } else if neighbours && heads {
+            let name = "give back large: both head neighbouring bins";
+            self.add(&format!("{}, {} smaller", name, which));
+        }
+    }
+
+    fn run_goes(
+        &mut self,
+        before: &State,
+        after: &State,
+        index: usize,
+        below: Option<Block>,
+        above: Option<Block>,
+    ) {
+        if index + 1 == before.low.len() {
+            let with = if below.is_some() { "a free block below" } else { "none free below" };
+            return self.add(&format!("give back large: into the remainder, {}", with));
+        }
+        let others = below.map_or(0, |block| block.size) + above.map_or(0, |block| block.size);
+        let size = before.low[index].size + others;
+        let what = if others == 0 { "single block" } else { "joined run" };
+        let place = chain_place(&after.large_bins, size);
+        match (after.large_bins[&size].len(), others) {
+            (1, _) => {
+                let name = format!("give back large: {} enters an empty bin, in the chain @", what);
+                self.add_at(&name, place)
+            }
+            (2, 0) => self.add("give back large: single block enters a bin of one"),
+            (_, 0) => self.add("give back large: single block enters a bin of two or more"),
+            _ => self.add("give back large: joined run enters a bin with blocks"),
+        }
+    }
+}
+
+/// A bin that would hold `size` but may not be split for it.
+fn passed_over(bins: &Bins, size: usize) -> bool {
+    bins.range(size + 1..size + LEAST_LARGE).next().is_some()
+}
+
+fn place(index: usize, length: usize) -> usize {
+    match (index, length) {
+        (_, 1) => 0,
+        (0, _) => 1,
+        (index, length) if index + 1 == length => 3,
+        _ => 2,
+    }
+}
+
+fn chain_place(bins: &Bins, size: usize) -> usize {
+    place(bins.range(..size).count(), bins.len())
+}
+
+fn list_place(bins: &Bins, block: Block) -> usize {
+    let starts = &bins[&block.size];
+    place(starts.iter().position(|start| *start == block.start).unwrap(), starts.len())
+}

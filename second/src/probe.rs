@@ -1,0 +1,168 @@
+//! The probe: commands on one pool image, one line for each.
+
+use crate::calls;
+use crate::state::GREATEST_POOL;
+use crate::tape::{figures_line, unreadable_line};
+use std::fmt::Write;
+
+const GREATEST_LIST: usize = 64;
+const GREATEST_WRITE: usize = 65_536;
+
+#[derive(Clone, Debug, PartialEq, Eq)]
+pub enum Command<'a> {
+    Image(&'a [u8]),
+    LayOut,
+    Inspect,
+    Take(u32),
+    GiveBack(u32),
+    Ask(u32),
+    ReadPart(u32),
+    WritePart(u32, &'a [u8]),
+    Figures,
+    Classes(usize),
+    Dump,
+}
+
+/// Takes commands off the front of the input.
+pub struct Reader<'a> {
+    rest: &'a [u8],
+}
+
+impl<'a> Reader<'a> {
+    pub fn new(input: &'a [u8]) -> Reader<'a> {
+        Reader { rest: input }
+    }
+
+    pub fn at_end(&self) -> bool {
+        self.rest.is_empty()
+    }
+
+    fn bytes(&mut self, count: usize) -> Option<&'a [u8]> {
+        let taken = self.rest.get(..count)?;
+        self.rest = &self.rest[count..];
+        Some(taken)
+    }
+
+    fn number(&mut self) -> Option<u32> {
+        let body = self.bytes(4)?;
+        Some(u32::from_le_bytes([body[0], body[1], body[2], body[3]]))
+    }
+
+    fn count(&mut self, greatest: usize) -> Option<usize> {
+        let count = self.number()? as usize;
+        if count <= greatest {
+            Some(count)
+        } else {
+            None
+        }
+    }
+
+    /// The next command; nothing for an unknown letter, a short body or a count too great.
+    pub fn command(&mut self) -> Option<Command<'a>> {
+        let letter = self.bytes(1)?[0];
+        Some(match letter {
+            b'I' => {
+                let n = self.count(GREATEST_POOL)?;
+                Command::Image(self.bytes(n)?)
+            }
+            b'L' => Command::LayOut,
+            b'N' => Command::Inspect,
+            b'T' => Command::Take(self.number()?),
+            b'G' => Command::GiveBack(self.number()?),
+            b'A' => Command::Ask(self.number()?),
+            b'P' => Command::ReadPart(self.number()?),
+            b'W' => {
+                let offset = self.number()?;
+                let k = self.count(GREATEST_WRITE)?;
+                Command::WritePart(offset, self.bytes(k)?)
+            }
+            b'S' => Command::Figures,
+            b'C' => Command::Classes(self.count(GREATEST_LIST)?),
+            b'D' => Command::Dump,
+            _ => return None,
+        })
+    }
+}
+
+/// Lower-case hex, `-` where there are no bytes.
+fn hex(bytes: &[u8]) -> String {
+    const DIGITS: &[u8; 16] = b"0123456789abcdef";
+    if bytes.is_empty() {
+        return "-".to_string();
+    }
+    let mut text = String::with_capacity(2 * bytes.len());
+    for byte in bytes {
+        text.push(DIGITS[(byte >> 4) as usize] as char);
+        text.push(DIGITS[(byte & 15) as usize] as char);
+    }
+    text
+}
+
+fn answer_line(letter: char, answer: Result<usize, crate::rules::Refusal>) -> String {
+    let (number, value) = calls::number_and_value(&answer);
+    format!("{} {} {}", letter, number, value)
+}
+
+fn read_part(pool: &[u8], offset: u32) -> String {
+    let part = calls::part(pool, offset);
+    let line = answer_line('P', calls::ask(pool, offset));
+    format!("{} {} {}", line, part.len(), hex(&pool[part]))
+}
+
+/// Copies as far as the part reaches; bytes of the part behind the copy stay as they are.
+fn write_part(pool: &mut [u8], offset: u32, bytes: &[u8]) -> String {
+    let part = calls::part(pool, offset);
+    let line = format!("{} {}", answer_line('W', calls::ask(pool, offset)), part.len());
+    let copied = bytes.len().min(part.len());
+    pool[part.start..part.start + copied].copy_from_slice(&bytes[..copied]);
+    line
+}
+
+fn classes(pool: &[u8], k: usize) -> String {
+    let mut counters = vec![7; k];
+    let mut line = answer_line('C', calls::class_count(pool, &mut counters));
+    for counter in counters {
+        write!(line, " {}", counter).unwrap();
+    }
+    line
+}
+
+fn serve(pool: &mut Vec<u8>, command: Command) -> String {
+    match command {
+        Command::Image(bytes) => {
+            *pool = bytes.to_vec();
+            format!("I 0 {}", pool.len())
+        }
+        Command::LayOut => answer_line('L', calls::lay_out(pool)),
+        Command::Inspect => answer_line('N', calls::inspect(pool)),
+        Command::Take(s) => answer_line('T', calls::take(pool, s)),
+        Command::GiveBack(offset) => answer_line('G', calls::give_back(pool, offset)),
+        Command::Ask(offset) => answer_line('A', calls::ask(pool, offset)),
+        Command::ReadPart(offset) => read_part(pool, offset),
+        Command::WritePart(offset, bytes) => write_part(pool, offset, bytes),
+        Command::Figures => figures_line(pool),
+        Command::Classes(k) => classes(pool, k),
+        Command::Dump => format!("D 0 {} {}", pool.len(), hex(pool)),
+    }
+}
+
+/// All lines of a run of commands.
+pub fn run(input: &[u8]) -> String {
+    let mut pool = Vec::new();
+    let mut lines = String::new();
+    let mut reader = Reader::new(input);
+    while !reader.at_end() {
+        match reader.command() {
+            Some(command) => {
+                lines.push_str(&serve(&mut pool, command));
+                lines.push('\n');
+            }
+            None => {
+                lines.push_str(&unreadable_line());
+                lines.push('\n');
+                return lines;
+            }
+        }
+    }
+    lines
+}

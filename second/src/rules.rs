@@ -1,0 +1,187 @@
+//! How the state answers: the rules of granting, coming back, asking and counting.
+//! Each rule works on a copy, so that a refusal cannot leave half a change behind.
+
+use crate::state::{Bins, Block, State, GREATEST_SMALL, LEAST_LARGE, LEAST_REMAINDER};
+
+#[derive(Clone, Copy, Debug, PartialEq, Eq)]
+pub enum Refusal {
+    NotAllowed = 1,
+    NotSound = 2,
+    SizeZero = 3,
+    NoRoom = 4,
+    NotHeld = 5,
+    ListLength = 6,
+    Unreadable = 7,
+}
+
+impl Refusal {
+    pub fn number(self) -> u32 {
+        self as u32
+    }
+}
+
+/// The block that a payload of s bytes needs, worked out in 64 bits.
+pub fn need(s: u32) -> usize {
+    ((s as u64 + 4 + 7) / 8 * 8) as usize
+}
+
+/// The state after a take, and the payload offset.
+pub fn take(state: &State, s: u32) -> Result<(State, usize), Refusal> {
+    if s == 0 {
+        return Err(Refusal::SizeZero);
+    }
+    let size = need(s);
+    let mut after = state.clone();
+    let start = if size <= GREATEST_SMALL {
+        take_small(&mut after, size)
+    } else {
+        take_large(&mut after, size)
+    };
+    start.map(|start| (after, start + 4)).ok_or(Refusal::NoRoom)
+}
+
+fn take_small(state: &mut State, size: usize) -> Option<usize> {
+    if let Some(start) = state.small_bins.get(&size).map(|starts| starts[0]) {
+        leave(&mut state.small_bins, size, start);
+        block_mut(&mut state.high, start).held = true;
+        return Some(start);
+    }
+    if state.remainder_size() < size + LEAST_REMAINDER {
+        return None;
+    }
+    let start = state.remainder_end() - size;
+    state.high.insert(0, Block { start, size, held: true });
+    Some(start)
+}
+
+fn take_large(state: &mut State, size: usize) -> Option<usize> {
+    if let Some(start) = state.large_bins.get(&size).map(|starts| used(starts)) {
+        leave(&mut state.large_bins, size, start);
+        block_mut(&mut state.low, start).held = true;
+        return Some(start);
+    }
+    let larger = state.large_bins.range(size + LEAST_LARGE..).next();
+    if let Some((whole, start)) = larger.map(|(whole, starts)| (*whole, used(starts))) {
+        split(state, start, whole, size);
+        return Some(start);
+    }
+    if state.remainder_size() < size + LEAST_REMAINDER {
+        return None;
+    }
+    let start = state.remainder_start();
+    state.low.push(Block { start, size, held: true });
+    Some(start)
+}
+
+/// The second block of a bin where there is one, else the first.
+fn used(starts: &[usize]) -> usize {
+    starts[1.min(starts.len() - 1)]
+}
+
+/// The low `size` bytes become held, the rest a free block of its own.
+fn split(state: &mut State, start: usize, whole: usize, size: usize) {
+    leave(&mut state.large_bins, whole, start);
+    let index = index_of(&state.low, start);
+    let rest = Block { start: start + size, size: whole - size, held: false };
+    state.low[index] = Block { start, size, held: true };
+    state.low.insert(index + 1, rest);
+    enter(&mut state.large_bins, rest.size, rest.start);
+}
+
+/// The state after a give-back, and the payload bytes.
+pub fn give_back(state: &State, offset: u32) -> Result<(State, usize), Refusal> {
+    let block = held_block(state, offset)?;
+    let mut after = state.clone();
+    if block.size <= GREATEST_SMALL {
+        block_mut(&mut after.high, block.start).held = false;
+        after.small_bins.entry(block.size).or_default().insert(0, block.start);
+    } else {
+        give_back_large(&mut after, block.start);
+    }
+    Ok((after, block.size - 4))
+}
+
+fn give_back_large(state: &mut State, start: usize) {
+    let mut index = index_of(&state.low, start);
+    let mut run = state.low[index];
+    run.held = false;
+    if index + 1 < state.low.len() && !state.low[index + 1].held {
+        let above = state.low.remove(index + 1);
+        leave(&mut state.large_bins, above.size, above.start);
+        run.size += above.size;
+    }
+    if index > 0 && !state.low[index - 1].held {
+        let below = state.low.remove(index - 1);
+        leave(&mut state.large_bins, below.size, below.start);
+        run = Block { start: below.start, size: below.size + run.size, held: false };
+        index -= 1;
+    }
+    if index + 1 == state.low.len() {
+        state.low.pop();
+    } else {
+        state.low[index] = run;
+        enter(&mut state.large_bins, run.size, run.start);
+    }
+}
+
+/// Second place, or first where the bin was empty.
+fn enter(bins: &mut Bins, size: usize, start: usize) {
+    let starts = bins.entry(size).or_default();
+    let place = 1.min(starts.len());
+    starts.insert(place, start);
+}
+
+fn leave(bins: &mut Bins, size: usize, start: usize) {
+    let starts = bins.get_mut(&size).expect("a free block has a bin");
+    starts.retain(|other| *other != start);
+    if starts.is_empty() {
+        bins.remove(&size);
+    }
+}
+
+fn index_of(run: &[Block], start: usize) -> usize {
+    run.binary_search_by_key(&start, |block| block.start).expect("a listed block stands in its run")
+}
+
+fn block_mut(run: &mut [Block], start: usize) -> &mut Block {
+    let index = index_of(run, start);
+    &mut run[index]
+}
+
+/// The held block whose payload starts at the offset.
+pub fn held_block(state: &State, offset: u32) -> Result<Block, Refusal> {
+    let found = state.held().find(|block| block.start + 4 == offset as usize);
+    found.copied().ok_or(Refusal::NotHeld)
+}
+
+pub fn figures(state: &State) -> [usize; 7] {
+    let greatest = state.free().map(|block| block.size).max().unwrap_or(0);
+    [
+        state.held().count(),
+        state.held().map(|block| block.size).sum(),
+        state.high.iter().filter(|block| !block.held).count(),
+        state.low.iter().filter(|block| !block.held).count(),
+        state.remainder_size(),
+        state.free_word(),
+        greatest.max(state.remainder_size()) - 4,
+    ]
+}
+
+pub const CLASSES: usize = 53;
+
+pub fn class_size(k: usize) -> usize {
+    (4 + k % 4) << (k / 4 + 1)
+}
+
+/// The least class whose size is at least the payload.
+pub fn class_of(payload: usize) -> usize {
+    (0..CLASSES).find(|k| class_size(*k) >= payload).expect("a pool's payload is below 64K")
+}
+
+pub fn class_counts(state: &State) -> [u32; CLASSES] {
+    let mut counts = [0; CLASSES];
+    for block in state.held() {
+        counts[class_of(block.size - 4)] += 1;
+    }
+    counts
+}

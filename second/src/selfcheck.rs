@@ -1,0 +1,199 @@
+//! Checks of this program by itself: cases by hand, starred words, and on every step of random
+//! runs that the state stays well formed and that its bytes give it back.
+
+use crate::branches::Counts;
+use crate::cases;
+use crate::damage;
+use crate::images;
+use crate::layout::{self, get4, get8};
+use crate::random::Random;
+use crate::report::Report;
+use crate::rules::{self, class_of, class_size, need};
+use crate::state::State;
+use crate::tape::Request;
+use crate::tapes::random_tape;
+use crate::{calls, probe, tape};
+use std::path::Path;
+
+const TAPES: u64 = 600;
+const IMAGES: u64 = 1_000;
+const DAMAGED: u64 = 2_500;
+
+pub fn run(seed: u64, keep: &Path) -> bool {
+    let mut report = Report::new(keep);
+    by_hand(&mut report);
+    starred(&mut report);
+    random_runs(&mut report, seed);
+    sound_images(&mut report, seed);
+    damaged_images(&mut report, seed);
+    report.close()
+}
+
+fn by_hand(report: &mut Report) {
+    report.begin("cases by hand");
+    let mut tapes = cases::tape_cases();
+    tapes.push(cases::worked_tape());
+    for case in tapes {
+        if let Some(lines) = case.lines {
+            report.check(tape::run(&case.tape) == lines, &case.name);
+        }
+    }
+    for case in cases::probe_cases().into_iter().chain(cases::probe_edges()) {
+        if let Some(lines) = case.lines {
+            report.check(probe::run(&case.input) == lines, &case.name);
+        }
+    }
+    report.end();
+}
+
+/// A pool of 1,024 bytes after some requests.
+fn pool_after(requests: &str) -> Vec<u8> {
+    let mut pool = vec![0; 1024];
+    calls::lay_out(&mut pool).expect("1,024 is allowed");
+    let tape = cases::tape_of(requests);
+    let mut rest = &tape[..];
+    while let Some((request, length)) = Request::read(rest) {
+        let answer = match request {
+            Request::Take(s) => calls::take(&mut pool, s),
+            Request::GiveBack(offset) => calls::give_back(&mut pool, offset),
+            _ => Ok(0),
+        };
+        answer.expect("no request of a starred case is refused");
+        rest = &rest[length..];
+    }
+    pool
+}
+
+fn starred(report: &mut Report) {
+    report.begin("starred words");
+    for (s, b) in [(1, 8), (4, 8), (5, 16), (12, 16), (60, 64), (61, 72)] {
+        report.check(need(s) == b, &format!("s = {} needs {}", s, b));
+    }
+    report.check(need(u32::MAX) == 4_294_967_304, "the greatest s is worked out exactly");
+    let fresh = pool_after("S");
+    report.check(get4(&fresh, 168) == 3_426, "fresh remainder's head");
+    report.check(get8(&fresh, 0) == 852, "fresh free word");
+    let held = pool_after("T 100, T 68");
+    report.check(get4(&held, 168) == 419, "held 104 first");
+    let free = pool_after("T 100, T 68, G 172");
+    report.check(get4(&free, 168) == 418, "free 104 first");
+    report.check(get4(&free, 272) == 289, "held 72 above it");
+    let equals = pool_after(cases::EQUALS);
+    report.check(get4(&equals, 168 + 8) == 232, "distance 232");
+    report.check(get4(&equals, 400 + 4) == 4_294_967_064, "distance -232");
+    report.check(class_of(12) == 2 && class_of(60) == 12, "classes of 12 and 60");
+    let sizes: Vec<usize> = (0..8).chain([51, 52]).map(class_size).collect();
+    report.check(sizes == [8, 10, 12, 14, 16, 20, 24, 28, 57_344, 65_536], "the class table");
+    report.end();
+}
+
+/// What must hold of a new state and its bytes, given the bytes before.
+fn step_holds(after: &State, old: &[u8]) -> Result<(), String> {
+    after.well_formed()?;
+    let bytes = layout::write(after, old);
+    let read = layout::read(&bytes)?;
+    if read != *after {
+        return Err("the bytes give another state back".to_string());
+    }
+    let mut governed = vec![false; bytes.len()];
+    for (at, _) in layout::governed(after) {
+        if governed[at..at + 4].iter().any(|byte| *byte) {
+            return Err(format!("the word at {} is governed twice", at));
+        }
+        governed[at..at + 4].iter_mut().for_each(|byte| *byte = true);
+    }
+    if (0..bytes.len()).any(|at| !governed[at] && bytes[at] != old[at]) {
+        return Err("a byte that is not governed has changed".to_string());
+    }
+    let figures = rules::figures(after);
+    if figures[1] + figures[5] + 172 != after.n {
+        return Err("held bytes + free word + 172 is not n".to_string());
+    }
+    let counted: u32 = rules::class_counts(after).iter().sum();
+    if counted as usize != figures[0] {
+        return Err("the classes do not count each held block once".to_string());
+    }
+    Ok(())
+}
+
+/// Each tape is served twice: by the calls on bytes, and on a state that is never read back.
+fn random_runs(report: &mut Report, seed: u64) {
+    report.begin("steps of random runs");
+    let mut counts = Counts::new();
+    for number in 0..TAPES {
+        let tape = random_tape(seed, number, &mut counts);
+        let mut random = Random::of_case(seed, 7, number);
+        if let Err(why) = replay(report, &tape, &mut random) {
+            report.fail(&format!("seed {}, tape {}: {}", seed, number, why));
+        }
+    }
+    report.end();
+}
+
+fn replay(report: &mut Report, tape: &[u8], random: &mut Random) -> Result<(), String> {
+    let lines = tape::run(tape);
+    let mut pool: Vec<u8> = Vec::new();
+    let mut state: Option<State> = None;
+    let mut rest = tape;
+    for line in lines.lines() {
+        let (request, length) = match Request::read(rest) {
+            Some(read) => read,
+            None => return Ok(()),
+        };
+        rest = &rest[length..];
+        let outcome = match (&state, request) {
+            (_, Request::LayOut(n)) if crate::state::allowed(n as usize) => {
+                pool = random.bytes(n as usize);
+                Ok((State::fresh(n as usize), n as usize))
+            }
+            (Some(state), Request::Take(s)) => rules::take(state, s),
+            (Some(state), Request::GiveBack(offset)) => rules::give_back(state, offset),
+            _ => continue,
+        };
+        let (number, value) =
+            outcome.as_ref().map_or_else(|refusal| (refusal.number(), 0), |(_, value)| (0, *value));
+        if !line.ends_with(&format!(" {} {}", number, value)) {
+            return Err(format!("the state answers {} {} and the line is {}", number, value, line));
+        }
+        if let Ok((after, _)) = outcome {
+            step_holds(&after, &pool)?;
+            pool = layout::write(&after, &pool);
+            state = Some(after);
+        }
+        report.pass(1);
+    }
+    Ok(())
+}
+
+fn sound_images(report: &mut Report, seed: u64) {
+    report.begin("sound images");
+    let mut random = Random::of_case(seed, 3, u64::MAX);
+    let mut states = images::extreme_states(&mut random);
+    for number in 0..IMAGES {
+        let mut random = Random::of_case(seed, 3, number);
+        let n = images::random_pool_size(&mut random);
+        states.push(images::random_state(&mut random, n));
+    }
+    for (number, state) in states.iter().enumerate() {
+        let old = random.bytes(state.n);
+        let holds = step_holds(state, &old);
+        report.check(holds.is_ok(), &format!("seed {}, image {}: {:?}", seed, number, holds));
+    }
+    report.end();
+}
+
+/// A damaged image that reads as a state has to be exactly that state's bytes.
+fn damaged_images(report: &mut Report, seed: u64) {
+    report.begin("damaged images");
+    for number in 0..DAMAGED {
+        let bytes = damage::damaged(seed, number).bytes;
+        let holds = match layout::read(&bytes) {
+            Ok(state) => {
+                step_holds(&state, &bytes).is_ok() && layout::write(&state, &bytes) == bytes
+            }
+            Err(_) => true,
+        };
+        report.check(holds, &format!("seed {}, damaged image {}", seed, number));
+    }
+    report.end();
+}
