@@ -11,6 +11,7 @@
 //!   second count [--seed N]        only the branches that the random inputs take
 //!   second work N K                probe commands: a pool of N bytes full of 8-byte blocks, and K
 //!                                  inspections of it
+//!   second pools [--seed N]        small pools as text of the prover's language
 //!
 //! The state is vectors of blocks and ordered lists (state.rs). The rules make a new state from
 //! the old one (rules.rs), and all governed bytes of it are laid over the old bytes (layout.rs).
@@ -25,6 +26,7 @@ mod compare;
 mod damage;
 mod images;
 mod layout;
+mod pools;
 mod probe;
 mod random;
 mod report;
@@ -56,13 +58,15 @@ fn main() {
         }
         "count" => compare::count(seed(options)),
         "work" => work(options),
+        "pools" => print_all(&pools::text(seed(options))),
         other => usage(&format!("no sub-command is called {}", other)),
     }
 }
 
 fn usage(fault: &str) -> ! {
     eprintln!("second: {}", fault);
-    eprintln!("usage: second tape | probe | self [--seed N] | count [--seed N] | work N K");
+    eprintln!("usage: second tape | probe | self [--seed N] | count [--seed N]");
+    eprintln!("       second work N K | pools [--seed N]");
     eprintln!("       second compare --tape \"WORDS\" --probe \"WORDS\" [--seed N] [--keep DIR]");
     exit(2)
 }
