@@ -1,1 +1,7 @@
 pub mod Finding
+pub mod LinkRead
+pub mod ChainRead
+pub mod LeaveBytes
+pub mod EnterBytes
+pub mod FreeBytes
+pub mod LeaveUsed

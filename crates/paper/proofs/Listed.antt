@@ -6,11 +6,11 @@ use Prim.Native.Nat.{_%_, _+_, _<_, _≤_, ℕ}
 use native.Mathlib.Nat.{add-zero}
 use native.Mathlib.Omega.{arith}
 use Rattle.paper.proofs.Walk.{In, in-aligned, in-high, in-low}
-use Rattle.paper.specs.Bins.{count}
+use Rattle.paper.specs.Bins.{count, rebin}
 use Rattle.paper.specs.Blocks.{Block, State, block, blocks, end, free, held, remainder, total}
 use Rattle.paper.specs.Governed.{flagAbove}
 use Rattle.paper.specs.Sound.{Sized, WellFormed, freeAt}
-use Rattle.words.specs.Choice.{by=, if=, if=-no, if=-yes, ifs}
+use Rattle.words.specs.Choice.{by=, if=-no, if=-yes, ifs}
 
 pub freeAt-append : (xs ys : List Block) (p y q : ℕ) → freeAt (xs ++ ys) p y q ≡ freeAt xs p y q + freeAt ys (p + total xs) y q
 unfolding freeAt
@@ -56,9 +56,6 @@ freeAt-in (block z free ∷ xs) p P y q h =
     (r .0, inr (r .1))))
     (λ e. let h' : 1 ≤ 0 + freeAt xs (p + z) y q = simp ifs at h in let r = freeAt-in xs (p + z) (flagAbove (block z free)) y q (omega arith) in
     (r .0, inr (r .1)))
-
-unfoldable pub rebin : (ℕ → List ℕ) → ℕ → List ℕ → ℕ → List ℕ
-rebin f z l y = if= y z l (f y)
 
 pub rebin-same : (f : ℕ → List ℕ) (z : ℕ) (l : List ℕ) → rebin f z l z ≡ l
 unfolding rebin

@@ -27,3 +27,23 @@ count p (x ∷ xs) = if= x p 1 0 + count p xs
 unfoldable pub seek : (ℕ → ℕ) → ℕ → ℕ → ℕ
 seek g zero z = 0
 seek g (suc k) z = if= (g z) 0 (seek g k (suc z)) (g z)
+
+-- the bins with another list for size z
+unfoldable pub rebin : (ℕ → List ℕ) → ℕ → List ℕ → ℕ → List ℕ
+rebin bins z l y = if= y z l (bins y)
+
+-- "Entering means second place, or first where the bin was empty."
+unfoldable pub enter : ℕ → List ℕ → List ℕ
+enter q [] = q ∷ []
+enter q (x ∷ xs) = x ∷ q ∷ xs
+
+-- the list without q
+unfoldable pub leave : ℕ → List ℕ → List ℕ
+leave q [] = []
+leave q (x ∷ xs) = if= x q xs (x ∷ leave q xs)
+
+-- "Within a bin, the second block is used where there is one, else the first."
+unfoldable pub used : List ℕ → ℕ
+used [] = 0
+used (x ∷ []) = x
+used (x ∷ y ∷ xs) = y

@@ -3,6 +3,12 @@ pub mod Layout
 pub mod Allowed
 pub mod Blocks
 pub mod Bins
+pub mod Runs
 pub mod Sheet
 pub mod Governed
 pub mod Sound
+pub mod Fresh
+pub mod Granting
+pub mod GivingBack
+pub mod Counting
+pub mod Calls

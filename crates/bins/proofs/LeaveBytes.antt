@@ -1,0 +1,129 @@
+-- Leaving a bin on bytes is the paper's: the model's stores are those that fit the sheet of the state without the block.
+use mathlib.Core.List.{List, [], _++_, _∷_}
+use mathlib.Core.Logic.{_≢_}
+use mathlib.Core.Path.{_∙_, _≡_, ap, refl, subst, sym}
+use Prim.Native.Nat.{_+_, _≤_, ℕ}
+use native.Mathlib.Omega.{arith}
+use lib.ListN.{length}
+use Rattle.bins.proofs.ChainRead.{find-from-false}
+use Rattle.bins.proofs.LinkRead.{chain-read, listed-size-read, member, next-in, previous-in}
+use Rattle.bins.specs.Find.{findBin, linkedAt}
+use Rattle.bins.specs.Leave.{headBin, leave, leaveFirst, leaveLater}
+use Rattle.heads.specs.Links.{linkWord}
+use Rattle.paper.proofs.Bins.{count-append, count-cons, count-here, last-count, lastOr}
+use Rattle.paper.proofs.First.{Pred, first-puts, heir, heir-puts, leave-first}
+use Rattle.paper.proofs.LeaveStep.{leave-puts, leave-step}
+use Rattle.paper.proofs.Leaving.{back-puts, later-puts, leave-later, rebinned}
+use Rattle.paper.proofs.Listed.{Loose, start}
+use Rattle.paper.proofs.Members.{leave-member, split-member}
+use Rattle.paper.proofs.Phases.{Step, step-write}
+use Rattle.paper.proofs.Stores.{puts}
+use Rattle.paper.specs.Bins.{count, first, leave as leave-list}
+use Rattle.paper.specs.Blocks.{State, end}
+use Rattle.paper.specs.Governed.{above, height, sheet}
+use Rattle.paper.specs.Layout.{chain-at, false-block, next-at, previous-at}
+use Rattle.paper.specs.Sheet.{Holds, write}
+use Rattle.words.specs.Choice.{if=-no, if=-yes, ifs}
+use Rattle.words.specs.Words.{putAt}
+
+-- at height 1 the index words are the chain word alone
+pub height-one : (s : State) (z : ℕ) → s .top ≡ 1 → height (s .top) z ≡ 1
+unfolding height
+height-one s z e = omega arith
+
+pub link-none : (x : ℕ) → linkWord x 0 ≡ 0
+unfolding linkWord
+link-none x = if=-yes 0 0 _ _ refl
+
+module _ (bs : List ℕ) (s : State) (W : Loose s) (fits : end s ≤ 65536) (l : length bs ≡ end s) (h : Holds (sheet s) bs) (q z : ℕ) (large : 72 ≤ z) where
+  listed-nonzero : (v : ℕ) → 1 ≤ count v (s .bins z) → v ≢ 0
+  listed-nonzero v i = omega (arith, start s W z v i .0)
+
+  -- q is not the first: r stands before it
+  module _ (u : ℕ) (us vs : List ℕ) (is-in : s .bins z ≡ u ∷ us ++ q ∷ vs) where
+    before-listed : 1 ≤ count (lastOr u us) (s .bins z)
+    before-listed = omega (arith, ap (count (lastOr u us)) is-in, count-append (lastOr u us) (u ∷ us) (q ∷ vs), last-count u us)
+
+    pub leaveLater-stores : (ws : List ℕ) → vs ≡ ws → leaveLater bs (lastOr u us) q ≡ puts (later-puts u us ws) bs
+    unfolding leaveLater later-puts back-puts first linkWord
+    leaveLater-stores [] e =
+        if=-yes (linkedAt bs q next-at) 0 _ _ (next-in bs s W fits l h q z (u ∷ us) vs large is-in ∙ ap first e)
+        ∙ ap (putAt 4 bs (lastOr u us + 8)) (sym (if=-yes 0 0 _ _ refl))
+    leaveLater-stores (x ∷ ws) e =
+        let nx : linkedAt bs q next-at ≡ x = next-in bs s W fits l h q z (u ∷ us) vs large is-in ∙ ap first e in
+        let x-in : 1 ≤ count x (s .bins z) = omega (arith, ap (count x) is-in, count-append x (u ∷ us) (q ∷ vs), count-cons x q vs, ap (count x) e, count-here x ws) in
+        let x0 : x ≢ 0 = listed-nonzero x x-in in
+        let r0 : lastOr u us ≢ 0 = listed-nonzero (lastOr u us) before-listed in
+        rw nx (simp ifs)
+
+    pub leaveLater-bytes : leaveLater bs (lastOr u us) q ≡ write (sheet (rebinned s z (u ∷ us ++ vs))) bs
+    leaveLater-bytes = leaveLater-stores vs refl ∙ leave-later s z u us vs W q is-in large bs l h
+
+  -- q is the first, and its bin stands past w on the chain
+  module _ (one : s .top ≡ 1) (vs : List ℕ) (is-in : s .bins z ≡ q ∷ vs) where
+    is-first : first (s .bins z) ≡ q
+    unfolding first
+    is-first = ap first is-in
+
+    q-listed : 1 ≤ count q (s .bins z)
+    q-listed = omega (arith, ap (count q) is-in, count-here q vs)
+
+    after-is : linkedAt bs q chain-at ≡ above (s .top) (end s) (s .bins) 1 z
+    after-is = chain-read bs s W fits l h q z large is-first (listed-nonzero q q-listed)
+
+    pub leaveFirst-stores : (w : ℕ) (ws : List ℕ) → vs ≡ ws → leaveFirst bs w q ≡ puts (first-puts s z (λ j. w) ws) bs
+    unfolding leaveFirst headBin first-puts heir-puts heir back-puts first
+    leaveFirst-stores w [] e =
+        rw (height-one s z one)
+        (if=-yes (linkedAt bs q next-at) 0 _ _ (next-in bs s W fits l h q z [] vs large is-in ∙ ap first e)
+        ∙ ap (λ (k : ℕ). putAt 4 bs (w + 64) (linkWord w k)) after-is)
+    leaveFirst-stores w (x ∷ ws) e =
+        let nx : linkedAt bs q next-at ≡ x = next-in bs s W fits l h q z [] vs large is-in ∙ ap first e in
+        let x-in : 1 ≤ count x (s .bins z) = omega (arith, ap (count x) is-in, count-cons x q vs, ap (count x) e, count-here x ws) in
+        let x0 : x ≢ 0 = listed-nonzero x x-in in
+        let none-word : linkWord x 0 ≡ 0 = link-none x in
+        rw (height-one s z one, none-word, nx, after-is) (simp ifs)
+
+    pub leaveFirst-bytes : (y w : ℕ) → Pred s z 1 y w → leaveFirst bs w q ≡ write (sheet (rebinned s z vs)) bs
+    leaveFirst-bytes y w P =
+        leaveFirst-stores w vs refl
+        ∙ leave-first s W z q vs is-in large (λ j. y) (λ j. w)
+        (λ j j1 jh. subst (λ (k : ℕ). Pred s z k y w) (omega (arith, height-one s z one)) P) bs l h
+
+  -- wherever q stands; the one before its bin is what the walk finds
+  module _ (one : s .top ≡ 1) where
+    abbrev pub bin-before : ℕ
+    bin-before = findBin bs chain-at false-block z .before
+
+    pub leave-preds : (y : ℕ) × ((j : ℕ) → 1 ≤ j → j ≤ height (s .top) z → Pred s z j y bin-before)
+    leave-preds =
+        let F = find-from-false bs s W fits l h z (omega arith) in
+        (F .y, λ j j1 jh. subst (λ (k : ℕ). Pred s z k (F .y) bin-before) (omega (arith, height-one s z one)) (F .pred))
+
+    pub leave-stores : (us vs : List ℕ) → s .bins z ≡ us ++ q ∷ vs → leave bs q ≡ puts (leave-puts s z (λ j. bin-before) us vs) bs
+    unfolding leave lastOr leave-puts
+    leave-stores [] vs is-in =
+        if=-yes (linkedAt bs q previous-at) 0 _ _ (previous-in bs s W fits l h q z [] vs large is-in)
+        ∙ ap (λ (k : ℕ). leaveFirst bs (findBin bs chain-at false-block k .before) q)
+        (listed-size-read bs s W fits l h q z (member bs s W fits l h q z [] vs large is-in))
+        ∙ leaveFirst-stores one vs is-in bin-before vs refl
+    leave-stores (u ∷ us) vs is-in =
+        let r : linkedAt bs q previous-at ≡ lastOr u us = previous-in bs s W fits l h q z (u ∷ us) vs large is-in in
+        let r0 : lastOr u us ≢ 0 = listed-nonzero (lastOr u us) (before-listed u us vs is-in) in
+        if=-no (linkedAt bs q previous-at) 0 _ _ (λ e. r0 (sym r ∙ e))
+        ∙ ap (λ (k : ℕ). leaveLater bs k q) r
+        ∙ leaveLater-stores u us vs is-in vs refl
+
+    pub leave-bytes : (us vs : List ℕ) → s .bins z ≡ us ++ q ∷ vs → leave bs q ≡ write (sheet (rebinned s z (us ++ vs))) bs
+    leave-bytes us vs is-in =
+        leave-stores us vs is-in
+        ∙ step-write (sheet s) (sheet (rebinned s z (us ++ vs))) bs (leave-puts s z (λ j. bin-before) us vs)
+        (subst (λ (n : ℕ). Step n (sheet s) (sheet (rebinned s z (us ++ vs))) (leave-puts s z (λ j. bin-before) us vs)) (sym l)
+        (leave-step s W z q us vs is-in large (λ j. leave-preds .0) (λ j. bin-before) (leave-preds .1))) h
+
+    -- the same, by the paper's list without q
+    pub leave-listed-bytes : 1 ≤ count q (s .bins z) → leave bs q ≡ write (sheet (rebinned s z (leave-list q (s .bins z)))) bs
+    leave-listed-bytes i =
+        let m = split-member q (s .bins z) i in
+        leave-bytes (m .0) (m .1) (m .2)
+        ∙ ap (λ (k : List ℕ). write (sheet (rebinned s z k)) bs) (sym (ap (leave-list q) (m .2) ∙ leave-member q (m .0) (m .1) (m .3)))

@@ -1,0 +1,82 @@
+-- "What the board hears": the answer of every public call and every lent byte afterwards. "Tests run in the order 1, 2, then the call's own."
+-- "After a call each governed byte has the value that the new blocks and lists give it; every other byte of the pool keeps its old value."
+use mathlib.Core.Path.{_≡_}
+use mathlib.Core.List.{List, []}
+use Prim.Native.Nat.{ℕ, _-_}
+use lib.ListN.{length, take as firsts, drop}
+use Rattle.words.specs.Choice.{if=, when}
+use Rattle.paper.specs.declared.Answer.{Answer}
+use Rattle.paper.specs.declared.Answer.the-variants.{Done, Refused}
+use Rattle.paper.specs.declared.Tally.{Tally}
+use Rattle.paper.specs.declared.Tally.the-variants.{Counted, Refused as Uncounted}
+use Rattle.paper.specs.Answers.{Out, out, not-allowed, not-sound, not-53}
+use Rattle.paper.specs.Allowed.{Allowed, allowed}
+use Rattle.paper.specs.Blocks.{State, blocks}
+use Rattle.paper.specs.Runs.{sumOf}
+use Rattle.paper.specs.Sheet.{write}
+use Rattle.paper.specs.Governed.{sheet}
+use Rattle.paper.specs.Sound.{Sound}
+use Rattle.paper.specs.Fresh.{fresh}
+use Rattle.paper.specs.Granting.{Result, take}
+use Rattle.paper.specs.GivingBack.{heldAt, ask, giveBack}
+use Rattle.paper.specs.Counting.{heldOne, figures, classCounters}
+
+-- ---- what a call finds when it reads the pool
+
+pub data Reading : Type 0 where
+  misfit broken : Reading
+  sound : State → Reading
+
+-- exactly one of them is what the bytes are: n is not allowed; it is and the pool is not sound; or it is sound, with these blocks and lists
+abbrev pub Reads : List ℕ → Reading → Type 0
+Reads bs misfit = Allowed (length bs) → ⊥
+Reads bs broken = Allowed (length bs) × (Sound bs → ⊥)
+Reads bs (sound s) = (S : Sound bs) × (S .state ≡ s)
+
+-- ---- the calls
+
+-- "Laying out returns n", and reads nothing
+unfoldable pub layOutCall : List ℕ → Out
+layOutCall bs = when (allowed (length bs)) (out (Done (length bs)) (write (sheet (fresh 1 (length bs))) bs)) (out (Refused not-allowed) bs)
+
+abbrev pub inspectCall : Reading → List ℕ → Answer
+inspectCall misfit bs = Refused not-allowed
+inspectCall broken bs = Refused not-sound
+inspectCall (sound s) bs = Done (length bs)
+
+-- the new blocks and lists over the old bytes
+abbrev pub leaves : Result → List ℕ → Out
+leaves r bs = out (r .answer) (write (sheet (r .state)) bs)
+
+abbrev pub takeCall : Reading → List ℕ → ℕ → Out
+takeCall misfit bs size = out (Refused not-allowed) bs
+takeCall broken bs size = out (Refused not-sound) bs
+takeCall (sound s) bs size = leaves (take s size) bs
+
+abbrev pub giveBackCall : Reading → List ℕ → ℕ → Out
+giveBackCall misfit bs offset = out (Refused not-allowed) bs
+giveBackCall broken bs offset = out (Refused not-sound) bs
+giveBackCall (sound s) bs offset = leaves (giveBack s offset) bs
+
+abbrev pub askCall : Reading → ℕ → Answer
+askCall misfit offset = Refused not-allowed
+askCall broken offset = Refused not-sound
+askCall (sound s) offset = ask s offset
+
+-- "A refused lend returns the empty part at the pool's end."
+abbrev pub lendCall : Reading → List ℕ → ℕ → List ℕ
+lendCall misfit bs offset = []
+lendCall broken bs offset = []
+lendCall (sound s) bs offset = firsts (heldAt s offset - 4) (drop offset bs)
+
+abbrev pub figuresCall : Reading → Tally
+figuresCall misfit = Uncounted not-allowed
+figuresCall broken = Uncounted not-sound
+figuresCall (sound s) = Counted (figures s)
+
+-- "The class count returns the number of held blocks", and "the count fills a lent list of 53 numbers"
+abbrev pub classCountCall : Reading → List ℕ → Out
+classCountCall misfit cs = out (Refused not-allowed) cs
+classCountCall broken cs = out (Refused not-sound) cs
+classCountCall (sound s) cs =
+    if= (length cs) 53 (out (Done (sumOf heldOne (blocks s))) (classCounters s)) (out (Refused not-53) cs)
