@@ -13,9 +13,9 @@ use Rattle.inspect.specs.Lists.{Left, chain, first-tests, follow, if-lef
 use Rattle.inspect.specs.Runs.{sizeAt}
 use Rattle.inspect.specs.Tests.{same}
 use Rattle.paper.proofs.Bins.{count-nil, first-count}
-use Rattle.paper.proofs.Listed.{rebin, rebin-other, rebin-same}
+use Rattle.paper.proofs.Listed.{rebin-other, rebin-same}
 use Rattle.paper.proofs.Seek.{seek-cong, seek-gap, seek-zero}
-use Rattle.paper.specs.Bins.{count, first, seek}
+use Rattle.paper.specs.Bins.{count, first, rebin, seek}
 use Rattle.paper.specs.Governed.{above}
 use Rattle.words.specs.Choice.{by<, by=, if=-no, if=-yes}
 use Rattle.words.specs.Words.{wordAt}
