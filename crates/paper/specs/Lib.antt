@@ -12,3 +12,4 @@ pub mod Granting
 pub mod GivingBack
 pub mod Counting
 pub mod Calls
+pub mod Honest
