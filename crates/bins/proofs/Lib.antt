@@ -5,3 +5,4 @@ pub mod LeaveBytes
 pub mod EnterBytes
 pub mod FreeBytes
 pub mod LeaveUsed
+pub mod EnterApart

@@ -37,7 +37,6 @@ pub mod Segment
 pub mod Join
 pub mod LeaveStep
 pub mod LinkWords
-pub mod Back
 pub mod Shapes
 pub mod HeldPlaces
 pub mod Neighbours
@@ -70,3 +69,6 @@ pub mod Undoing
 pub mod SoundHonest
 pub mod Accepted
 pub mod PayloadWrites
+pub mod FreeWordLast
+pub mod SmallBins
+pub mod Flags

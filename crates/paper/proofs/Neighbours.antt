@@ -36,11 +36,11 @@ gap-total d =
     by= d 0 (λ e. ap (λ (k : ℕ). total (gap k)) e ∙ ap total gap-none ∙ sym e)
     (λ n. ap total (gap-some d (omega arith)) ∙ omega arith)
 
-left-none : (bins : ℕ → List ℕ) (d p : ℕ) → d ≡ 0 → left bins d p ≡ bins
+pub left-none : (bins : ℕ → List ℕ) (d p : ℕ) → d ≡ 0 → left bins d p ≡ bins
 unfolding left
 left-none bins d p e = if=-yes d 0 _ _ e
 
-left-some : (bins : ℕ → List ℕ) (d p : ℕ) → d ≢ 0 → left bins d p ≡ rebin bins d (leave p (bins d))
+pub left-some : (bins : ℕ → List ℕ) (d p : ℕ) → d ≢ 0 → left bins d p ≡ rebin bins d (leave p (bins d))
 unfolding left
 left-some bins d p n = if=-no d 0 _ _ n
 

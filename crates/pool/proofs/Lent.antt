@@ -6,7 +6,7 @@ use Prim.Native.Nat.{ℕ, _+_, _-_, _≤_, _<_}
 use native.Mathlib.Nat.{sub-self, add-sub-cancel-left}
 use lib.ListN.{length, take, drop}
 use Rattle.words.specs.Choice.{if<, if=, if=-yes, if=-no, if<-yes, if<-no}
-use Rattle.pool.specs.Calls.{lent, part}
+use Rattle.pool.specs.Models.{lent, part}
 
 module _ (bs : List ℕ) (offset k : ℕ) (e : k ≡ lent bs offset) where
   -- the part in terms of what was read

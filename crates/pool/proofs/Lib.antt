@@ -1,3 +1,12 @@
 pub mod Clearing
 pub mod Lent
 pub mod Refusals
+pub mod Readings
+pub mod ByPaper
+pub mod StoredSheet
+pub mod LayOutPaper
+pub mod TakePaper
+pub mod GiveBackPaper
+pub mod ClassPaper
+pub mod Demand3
+pub mod Determined

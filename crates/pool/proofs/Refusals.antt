@@ -10,7 +10,7 @@ use Rattle.paper.specs.Answers.{not-allowed, not-sound}
 use Rattle.paper.specs.Allowed.{Allowed, allowed}
 use Rattle.paper.proofs.Allowed.{allowed-inv}
 use Rattle.inspect.specs.Inspection.{inspected}
-use Rattle.pool.specs.Calls.{refusalOf}
+use Rattle.pool.specs.Models.{refusalOf}
 
 module _ (bs : List ℕ) where
   pub too-odd : allowed (length bs) ≡ false → not-allowed ≡ refusalOf bs

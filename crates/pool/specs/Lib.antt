@@ -1,2 +1,4 @@
 pub mod Calls
 pub mod Fresh
+pub mod Models
+pub mod Read

@@ -1,7 +1,7 @@
 // Lending a held payload: the caller's own bytes, as a part of the pool.
 ghost use mathlib.Core.Path.{_≡_};
-ghost use Rattle.pool.specs.Calls.{lent as lent-of, part};
-use crate::look_up;
+ghost use Rattle.pool.specs.Models.{lent as lent-of, part};
+use crate::calls::look_up;
 use paper::Answer;
 
 // How many bytes of the payload at `offset` can be lent; 0 where the call is refused.

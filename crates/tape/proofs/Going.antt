@@ -15,7 +15,7 @@ use Rattle.tape.specs.Lines.{lineOf, Printed}
 use Rattle.tape.specs.Serve.{Pool, pool, serve}
 use Rattle.tape.specs.Step.{Stepped}
 use Rattle.tape.specs.Run.{Run, run, then, x-line, longest, runFrom, runOf, left, leaves}
-use Rattle.tape.proofs.Reader.{Onward, onward}
+use Rattle.tape.proofs.Records.{Onward, onward}
 
 -- the length of `out`: 96 bytes for each record of the longest tape
 abbrev room : ℕ

@@ -1,6 +1,6 @@
 pub mod First
 pub mod Print
-pub mod Reader
+pub mod Records
 pub mod Steps
 pub mod Going
 pub mod Leaves

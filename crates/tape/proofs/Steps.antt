@@ -5,8 +5,7 @@ use Prim.Native.Nat.{ℕ}
 use Rattle.paper.specs.Answers.{Out, out}
 use Rattle.paper.specs.declared.Answer.{Answer}
 use Rattle.paper.specs.declared.Tally.{Tally}
-use Rattle.pool.specs.Fresh.{layOut}
-use Rattle.pool.specs.Calls.{take, giveBack}
+use Rattle.pool.specs.Calls.{layOut, take, giveBack}
 use Rattle.tape.specs.declared.request.Request.the-variants.{LayOut, Take, GiveBack, Figures}
 use Rattle.tape.specs.Records.{letterOf}
 use Rattle.tape.specs.Lines.{lineOf, answered, tallied, Printed}

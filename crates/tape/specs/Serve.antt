@@ -9,8 +9,7 @@ use Rattle.paper.specs.declared.Answer.{Answer}
 use Rattle.paper.specs.declared.Answer.the-variants.{Done, Refused}
 use Rattle.paper.specs.declared.Tally.{Tally}
 use Rattle.paper.specs.declared.Tally.the-variants.{Refused as Uncounted}
-use Rattle.pool.specs.Fresh.{layOut}
-use Rattle.pool.specs.Calls.{take, giveBack, figures}
+use Rattle.pool.specs.Calls.{layOut, take, giveBack, figures}
 use Rattle.tape.specs.declared.request.Request.{Request}
 use Rattle.tape.specs.declared.request.Request.the-variants.{LayOut, Take, GiveBack, Figures}
 use Rattle.tape.specs.Lines.{answered, tallied}

@@ -1,8 +1,7 @@
 // The pool's calls on the first n bytes of the run's buffer. An n that the buffer does not have is not allowed.
 ghost use mathlib.Core.Path.{_≡_};
 ghost use Rattle.paper.specs.Answers.{out};
-ghost use Rattle.pool.specs.Fresh.{layOut};
-ghost use Rattle.pool.specs.Calls.{take as Calls·take, giveBack};
+ghost use Rattle.pool.specs.Calls.{layOut, take as Calls·take, giveBack};
 ghost use Rattle.tape.specs.Serve.{onFirst, figuresFirst};
 use paper::Answer;
 use paper::Tally;

@@ -4,12 +4,13 @@ ghost use Rattle.tape.specs.Run.{runOf, leaves, left};
 
 mod calls;
 mod lines;
+mod reader;
 mod request;
 mod serve;
 
+pub use reader::record_at;
 pub use request::Record;
 pub use request::Request;
-pub use request::read;
 
 // The longest tape that is run, in bytes.
 pub const LONGEST: usize = 32_768;
@@ -32,7 +33,7 @@ pub fn run(tape: &[u8], buffer: &mut [u8; BUFFER], out: &mut [u8; ROOM]) -> usiz
     let mut n: u32 = 0;
     let mut place: usize = 0;
     while at < tape.len() {
-        let Record::Whole(request, next) = read(tape, at) else {
+        let Record::Whole(request, next) = record_at(tape, at) else {
             return lines::line(out, place, nth, b'X', paper::UNREADABLE, 0);
         };
         let served = serve::serve(request, n, nth, buffer, out, place);

@@ -1,24 +1,14 @@
--- pool::ask meets its contract, by the block that was found.
-use Rattle.pool.specs.Calls.{ask}
+-- pool::ask meets its contract: the model is the paper's call.
+use Rattle.pool.proofs.ByPaper.{ask-paper}
 use borrow.Author.Needs.{needs}
+use mathlib.Core.Path.{sym, _∙_}
+use native.Mathlib.Omega.{arith}
 use Rattle.pool.proofs.ask.Statement.{statement}
 use Rattle.pool.proofs.ask.Tie as tie
-
-returns : tie.Need-returns
-unfolding ask
-returns c = rw (← c .before .before .look-up .ensures, c .enum-told .given .1)
-
-returns-2 : tie.Need-returns-2
-unfolding ask
-returns-2 c = rw (← c .before .before .before .before .look-up .ensures, c .before .before .found .given .1) (cc)
 
 pub ask-spec : {M : Type 1} → statement M
 ask-spec =
     tie.close
     (tie.spec
     (λ c κs. search needs)
-    (λ c. search needs)
-    (λ c. search needs)
-    returns
-    (λ c κs. search needs)
-    returns-2)
+    (λ c. c .ask .ensures ∙ ask-paper _ (λ i. omega (arith, c .before .shared-slice-known .given i)) _))

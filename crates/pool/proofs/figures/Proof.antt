@@ -1,23 +1,14 @@
--- pool::figures meets its contract, by the refusal.
-use Rattle.pool.specs.Calls.{figures}
-use Rattle.words.specs.Choice.{if=-yes, if=-no}
+-- pool::figures meets its contract: the model is the paper's call.
+use Rattle.pool.proofs.ByPaper.{figures-paper}
 use borrow.Author.Needs.{needs}
+use mathlib.Core.Path.{sym, _∙_}
+use native.Mathlib.Omega.{arith}
 use Rattle.pool.proofs.figures.Statement.{statement}
 use Rattle.pool.proofs.figures.Tie as tie
-
-returns : tie.Need-returns
-unfolding figures
-returns c = rw (← c .before .refusal .ensures, if=-no _ _ _ _ (c .if1 .taken)) (cc)
-
-returns-2 : tie.Need-returns-2
-unfolding figures
-returns-2 c = rw (← c .before .before .refusal .ensures, if=-yes _ _ _ _ (c .before .if1 .left)) (cc)
 
 pub figures-spec : {M : Type 1} → statement M
 figures-spec =
     tie.close
     (tie.spec
     (λ c κs. search needs)
-    returns
-    (λ c κs. search needs)
-    returns-2)
+    (λ c. c .figures .ensures ∙ figures-paper _ (λ i. omega (arith, c .before .shared-slice-known .given i))))

@@ -1,16 +1,10 @@
--- pool::give_back meets its contract, by the block that was found.
-use Rattle.pool.specs.Calls.{giveBack}
+-- pool::give_back meets its contract: the model is the paper's call.
+use Rattle.pool.proofs.GiveBackPaper.{give-back-paper}
 use borrow.Author.Needs.{needs}
+use mathlib.Core.Path.{sym, _∙_}
+use native.Mathlib.Omega.{arith}
 use Rattle.pool.proofs.give_back.Statement.{statement}
 use Rattle.pool.proofs.give_back.Tie as tie
-
-returns : tie.Need-returns
-unfolding giveBack
-returns c = rw (← c .before .before .look-up .ensures, c .enum-told .given .1)
-
-returns-2 : tie.Need-returns-2
-unfolding giveBack
-returns-2 c = rw (← c .before .before .before .before .before .before .before .before .before .look-up .ensures, c .before .before .before .before .before .before .before .found .given .1) (cc)
 
 pub give-back-spec : {M : Type 1} → statement M
 give-back-spec =
@@ -18,11 +12,4 @@ give-back-spec =
     (tie.spec
     (λ c κs. search needs)
     (λ c. search needs)
-    (λ c. search needs)
-    (λ c. search needs)
-    returns
-    (λ c κs. search needs)
-    (λ c κs. search needs)
-    (λ c κs. search needs)
-    (λ c. search needs)
-    returns-2)
+    (λ c. sym (give-back-paper _ (λ i. omega (arith, c .before .before .before .before .slice-known .given i)) _) ∙ c .before .before .give-back .ensures))

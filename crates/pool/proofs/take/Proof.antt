@@ -1,17 +1,10 @@
--- pool::take meets its contract, by the refusal.
-use Rattle.pool.specs.Calls.{take}
-use Rattle.words.specs.Choice.{if=-yes, if=-no}
+-- pool::take meets its contract: the model is the paper's call.
+use Rattle.pool.proofs.TakePaper.{take-paper}
 use borrow.Author.Needs.{needs}
+use mathlib.Core.Path.{sym, _∙_}
+use native.Mathlib.Omega.{arith}
 use Rattle.pool.proofs.take.Statement.{statement}
 use Rattle.pool.proofs.take.Tie as tie
-
-returns : tie.Need-returns
-unfolding take
-returns c = rw (← c .before .refusal .ensures, if=-no _ _ _ _ (c .if1 .taken)) (cc)
-
-returns-2 : tie.Need-returns-2
-unfolding take
-returns-2 c = rw (← c .before .before .before .before .before .refusal .ensures, if=-yes _ _ _ _ (c .before .before .before .before .if1 .left)) (cc)
 
 pub take-spec : {M : Type 1} → statement M
 take-spec =
@@ -19,7 +12,4 @@ take-spec =
     (tie.spec
     (λ c κs. search needs)
     (λ c. search needs)
-    returns
-    (λ c κs. search needs)
-    (λ c. search needs)
-    returns-2)
+    (λ c. sym (take-paper _ (λ i. omega (arith, c .before .before .before .before .slice-known .given i)) _) ∙ c .before .before .take .ensures))

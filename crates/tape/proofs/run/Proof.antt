@@ -4,7 +4,7 @@ use Prim.Native.Nat.{_-_}
 use native.Mathlib.Omega.{arith}
 use lib.ListN.{length}
 use borrow.Author.Needs.{needs}
-use Rattle.tape.proofs.Reader.{onward}
+use Rattle.tape.proofs.Records.{onward}
 use Rattle.tape.proofs.Going.{Going, too-long, start, ends, stops, goes-on}
 use Rattle.tape.proofs.run.Statement.{statement}
 use Rattle.tape.proofs.run.Tie as tie
@@ -26,19 +26,19 @@ returns-2 : tie.Need-returns-2 Inv-loop μ-loop
 returns-2 c =
     let told = c .before .before in
     let read = told .before .before in
-    stops (read .before .before .loop .inv) (read .before .loop-test .taken) (omega arith) (read .read .ensures) (told .enum-told .given .1) (c .line2 .ensures)
+    stops (read .before .before .loop .inv) (read .before .loop-test .taken) (omega arith) (read .record-at .ensures) (told .enum-told .given .1) (c .line2 .ensures)
 
 loop-less : tie.Need-loop-less Inv-loop μ-loop
 loop-less c =
     let request = c .before .before .before .before in
-    let on = onward _ _ (sym (request .before .before .read .ensures) ∙ request .request .given .1) in
+    let on = onward _ _ (sym (request .before .before .record-at .ensures) ∙ request .request .given .1) in
     omega (arith, on .past-this, on .within)
 
 loop-again : tie.Need-loop-again Inv-loop μ-loop
 loop-again c =
     let request = c .before .before .before .before in
     let read = request .before .before in
-    goes-on (read .before .before .loop .inv) (read .before .loop-test .taken) (omega arith) (read .read .ensures) (request .request .given .1) (c .serve .ensures)
+    goes-on (read .before .before .loop .inv) (read .before .loop-test .taken) (omega arith) (read .record-at .ensures) (request .request .given .1) (c .serve .ensures)
 
 returns-3 : tie.Need-returns-3 Inv-loop μ-loop
 returns-3 c = ends (c .before .loop .inv) (c .loop-test .left)

@@ -1,5 +1,5 @@
 -- pool::lent meets its contract, by the block that was found.
-use Rattle.pool.specs.Calls.{lent}
+use Rattle.pool.specs.Models.{lent}
 use borrow.Author.Needs.{needs}
 use Rattle.pool.proofs.parts.lent.Statement.{statement}
 use Rattle.pool.proofs.parts.lent.Tie as tie

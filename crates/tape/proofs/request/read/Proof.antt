@@ -1,6 +1,6 @@
 -- tape::request::read meets its contract: each way out is where the tests of the reader lead.
 use borrow.Author.Needs.{needs}
-use Rattle.tape.proofs.Reader.{past, no-body, short, laid, taken, given, other}
+use Rattle.tape.proofs.Records.{past, no-body, short, laid, taken, given, other}
 use Rattle.tape.proofs.request.read.Statement.{statement}
 use Rattle.tape.proofs.request.read.Tie as tie
 

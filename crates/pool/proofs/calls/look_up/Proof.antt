@@ -1,9 +1,9 @@
--- pool::look_up meets its contract, by the refusal and the block that was found.
-use Rattle.pool.specs.Calls.{lookUp}
+-- pool::calls::look_up meets its contract, by the refusal and the block that was found.
+use Rattle.pool.specs.Models.{lookUp}
 use Rattle.words.specs.Choice.{if=-yes, if=-no}
 use borrow.Author.Needs.{needs}
-use Rattle.pool.proofs.look_up.Statement.{statement}
-use Rattle.pool.proofs.look_up.Tie as tie
+use Rattle.pool.proofs.calls.look_up.Statement.{statement}
+use Rattle.pool.proofs.calls.look_up.Tie as tie
 
 returns : tie.Need-returns
 unfolding lookUp

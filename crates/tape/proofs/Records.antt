@@ -1,4 +1,4 @@
--- The reader's ways: where each of its tests leads; and what a whole record is: its kind is its request's, and it ends within the tape.
+-- Reading a record: where each test of `read` leads; and what a whole record is: its kind is its request's, and it ends within the tape.
 use mathlib.Core.Path.{_≡_, sym, ap, _∙_}
 use mathlib.Core.Logic.{_≢_}
 use mathlib.Core.List.{List}

@@ -1,10 +1,10 @@
--- pool::refusal meets its contract, way by way.
+-- pool::calls::refusal meets its contract, way by way.
 use Rattle.pool.proofs.Refusals.{too-odd, unsound, none}
 use borrow.Author.Needs.{needs}
 use borrow.Author.Tests.{not-true, not-false}
 use mathlib.Core.Path.{sym, _∙_}
-use Rattle.pool.proofs.refusal.Statement.{statement}
-use Rattle.pool.proofs.refusal.Tie as tie
+use Rattle.pool.proofs.calls.refusal.Statement.{statement}
+use Rattle.pool.proofs.calls.refusal.Tie as tie
 
 pub refusal-spec : {M : Type 1} → statement M
 refusal-spec =

@@ -1,0 +1,13 @@
+pub mod HeadWords
+pub mod Left
+pub mod Settling
+pub mod RunShape
+pub mod RunReads
+pub mod RunEnters
+pub mod RunLeft
+pub mod IntoRemainder
+pub mod RestBytes
+pub mod RunBytes
+pub mod LargeBytes
+pub mod SmallBytes
+pub mod BackBytes

@@ -1,0 +1,46 @@
+-- Demand 3, over the public call: "Inspection accepts a pool exactly if it could have come about honestly: some buffer of that length, laid
+-- out, then some takes and give-backs, ends in these very bytes. Writing inside a held payload never spoils an accepted pool."
+use mathlib.Core.Path.{_≡_, refl}
+use mathlib.Core.List.{List}
+use Prim.Native.Nat.{ℕ}
+use lib.ListN.{length}
+use Rattle.words.specs.Words.{Bytes}
+use Rattle.paper.specs.declared.Answer.the-variants.{Done, Refused}
+use Rattle.paper.specs.Allowed.{Allowed}
+use Rattle.paper.specs.Answers.{not-allowed, not-sound}
+use Rattle.paper.specs.Calls.{Reading, Reads, misfit, broken, sound, inspectCall}
+use Rattle.paper.specs.Honest.{Honest}
+use Rattle.paper.specs.Sound.{Sound}
+use Rattle.paper.proofs.Accepted.{accepted-honest, honest-accepted}
+use Rattle.paper.proofs.PayloadWrites.{SameOutside, sound-same-outside}
+use Rattle.pool.specs.Read.{read}
+use Rattle.pool.specs.Calls.{inspect}
+use Rattle.pool.proofs.Readings.{reads, reading-unique}
+
+module _ (bs : List ℕ) (bytes : Bytes bs) where
+  -- the answer is the one of the pool's only reading
+  by-reading : (x : Reading) → Reads bs x → inspect bs ≡ inspectCall x bs
+  unfolding inspect
+  by-reading x k = rw (reading-unique bs (read bs) x (reads bs bytes) k)
+
+  pub refused-1 : (Allowed (length bs) → ⊥) → inspect bs ≡ Refused not-allowed
+  refused-1 h = by-reading misfit h
+
+  pub refused-2 : Allowed (length bs) → (Sound bs → ⊥) → inspect bs ≡ Refused not-sound
+  refused-2 a h = by-reading broken (a, h)
+
+  pub accepted-sound-pools : (S : Sound bs) → inspect bs ≡ Done (length bs)
+  accepted-sound-pools S = by-reading (sound (S .state)) (S, refl)
+
+  pub accepted-is-honest : inspect bs ≡ Done (length bs) → Honest bs
+  unfolding inspect
+  accepted-is-honest h = accepted-honest bs bytes (read bs) (reads bs bytes) h
+
+  pub honest-is-accepted : Honest bs → inspect bs ≡ Done (length bs)
+  unfolding inspect
+  honest-is-accepted h = honest-accepted bs bytes (read bs) (reads bs bytes) h
+
+-- bytes that differ only inside held payloads
+pub payload-writes : (bs bs' : List ℕ) → Bytes bs' → (S : Sound bs) → length bs' ≡ length bs → SameOutside (S .state) bs bs'
+    → inspect bs' ≡ Done (length bs')
+payload-writes bs bs' bytes S l same = accepted-sound-pools bs' bytes (sound-same-outside bs bs' S l same .0)
