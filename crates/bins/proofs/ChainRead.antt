@@ -33,9 +33,6 @@ pub record Found (s : State) (size : ℕ) (at : Place) : Type 0 where
   pub pred : Pred s size 1 y (at .before)
   pub next : at .first ≡ above (s .top) (end s) (s .bins) 1 y
 
-pub on-chain-first : (s : State) (W : Loose s) (z q : ℕ) → 72 ≤ z → first (s .bins z) ≡ q → q ≢ 0 → OnChain s z q
-on-chain-first s W z q large e n = inr (reach-at (s .top) (end s) (s .bins) 1 z (height-pos s W z) ∙ e, n, large)
-
 module _ (bs : List ℕ) (s : State) (W : Loose s) (fits : end s ≤ 65536) (l : length bs ≡ end s) (h : Holds (sheet s) bs) where
   pub chain-on : (y w : ℕ) → OnChain s y w → linkedAt bs w chain-at ≡ above (s .top) (end s) (s .bins) 1 y
   chain-on y w (inl b) =
@@ -112,11 +109,3 @@ module _ (s : State) (W : Loose s) (size : ℕ) (at : Place) (F : Found s size a
   unfolding smallestBin
   found-no-smallest e =
       seek-zero (λ (u : ℕ). if= (first (s .bins u)) 0 0 u) (end s) size (λ u a. if=-yes (first (s .bins u)) 0 _ _ (found-none e u a))
-
-  -- a bin of exactly that size is the one that is found
-  pub found-exact : first (s .bins size) ≢ 0 → at .first ≡ first (s .bins size)
-  found-exact n =
-      by= (at .first) 0 (λ e. absurd (n (found-none e size (omega arith))))
-      (λ k. let m = found-some k in
-      by= (m .0) size (λ e. sym (m .2) ∙ ap (λ (u : ℕ). first (s .bins u)) e)
-      (λ d. absurd (n (m .3 size (omega arith) (omega (arith, m .1))))))

@@ -11,14 +11,13 @@ use Rattle.bins.specs.Find.{findBin, linkedAt}
 use Rattle.bins.specs.Leave.{headBin, leave, leaveFirst, leaveLater}
 use Rattle.heads.specs.Links.{linkWord}
 use Rattle.paper.proofs.Bins.{count-append, count-cons, count-here, last-count, lastOr}
-use Rattle.paper.proofs.First.{Pred, first-puts, heir, heir-puts, leave-first}
+use Rattle.paper.proofs.First.{Pred, first-puts, heir, heir-puts}
 use Rattle.paper.proofs.LeaveStep.{leave-puts, leave-step}
-use Rattle.paper.proofs.Leaving.{back-puts, later-puts, leave-later, rebinned}
+use Rattle.paper.proofs.Leaving.{back-puts, later-puts, rebinned}
 use Rattle.paper.proofs.Listed.{Loose, start}
-use Rattle.paper.proofs.Members.{leave-member, split-member}
 use Rattle.paper.proofs.Phases.{Step, step-write}
 use Rattle.paper.proofs.Stores.{puts}
-use Rattle.paper.specs.Bins.{count, first, leave as leave-list}
+use Rattle.paper.specs.Bins.{count, first}
 use Rattle.paper.specs.Blocks.{State, end}
 use Rattle.paper.specs.Governed.{above, height, sheet}
 use Rattle.paper.specs.Layout.{chain-at, false-block, next-at, previous-at}
@@ -56,9 +55,6 @@ module _ (bs : List ℕ) (s : State) (W : Loose s) (fits : end s ≤ 65536) (l :
         let r0 : lastOr u us ≢ 0 = listed-nonzero (lastOr u us) before-listed in
         rw nx (simp ifs)
 
-    pub leaveLater-bytes : leaveLater bs (lastOr u us) q ≡ write (sheet (rebinned s z (u ∷ us ++ vs))) bs
-    leaveLater-bytes = leaveLater-stores vs refl ∙ leave-later s z u us vs W q is-in large bs l h
-
   -- q is the first, and its bin stands past w on the chain
   module _ (one : s .top ≡ 1) (vs : List ℕ) (is-in : s .bins z ≡ q ∷ vs) where
     is-first : first (s .bins z) ≡ q
@@ -83,12 +79,6 @@ module _ (bs : List ℕ) (s : State) (W : Loose s) (fits : end s ≤ 65536) (l :
         let x0 : x ≢ 0 = listed-nonzero x x-in in
         let none-word : linkWord x 0 ≡ 0 = link-none x in
         rw (height-one s z one, none-word, nx, after-is) (simp ifs)
-
-    pub leaveFirst-bytes : (y w : ℕ) → Pred s z 1 y w → leaveFirst bs w q ≡ write (sheet (rebinned s z vs)) bs
-    leaveFirst-bytes y w P =
-        leaveFirst-stores w vs refl
-        ∙ leave-first s W z q vs is-in large (λ j. y) (λ j. w)
-        (λ j j1 jh. subst (λ (k : ℕ). Pred s z k y w) (omega (arith, height-one s z one)) P) bs l h
 
   -- wherever q stands; the one before its bin is what the walk finds
   module _ (one : s .top ≡ 1) where
@@ -120,10 +110,3 @@ module _ (bs : List ℕ) (s : State) (W : Loose s) (fits : end s ≤ 65536) (l :
         ∙ step-write (sheet s) (sheet (rebinned s z (us ++ vs))) bs (leave-puts s z (λ j. bin-before) us vs)
         (subst (λ (n : ℕ). Step n (sheet s) (sheet (rebinned s z (us ++ vs))) (leave-puts s z (λ j. bin-before) us vs)) (sym l)
         (leave-step s W z q us vs is-in large (λ j. leave-preds .0) (λ j. bin-before) (leave-preds .1))) h
-
-    -- the same, by the paper's list without q
-    pub leave-listed-bytes : 1 ≤ count q (s .bins z) → leave bs q ≡ write (sheet (rebinned s z (leave-list q (s .bins z)))) bs
-    leave-listed-bytes i =
-        let m = split-member q (s .bins z) i in
-        leave-bytes (m .0) (m .1) (m .2)
-        ∙ ap (λ (k : List ℕ). write (sheet (rebinned s z k)) bs) (sym (ap (leave-list q) (m .2) ∙ leave-member q (m .0) (m .1) (m .3)))

@@ -7,7 +7,7 @@ use Prim.Native.Nat.{_+_, _≤_, suc, ℕ}
 use native.Mathlib.Omega.{arith}
 use Rattle.paper.proofs.Bins.{count-cons, count-here, count-nil, count-there}
 use Rattle.paper.specs.Bins.{count, enter, first, leave, rebin, used}
-use Rattle.words.specs.Choice.{by=, if=, if=-no, if=-yes, ifs}
+use Rattle.words.specs.Choice.{by=, if=, if=-yes, ifs}
 
 -- ---- entering
 pub count-enter : (q x : ℕ) (l : List ℕ) → count x (enter q l) ≡ if= q x 1 0 + count x l
@@ -18,9 +18,6 @@ count-enter q x (y ∷ l) = omega (arith, count-cons x y (q ∷ l), count-cons x
 pub count-enter-self : (q : ℕ) (l : List ℕ) → count q (enter q l) ≡ suc (count q l)
 count-enter-self q l = omega (arith, count-enter q q l, if=-yes {A = ℕ} q q 1 0 refl)
 
-pub count-enter-other : (q x : ℕ) (l : List ℕ) → q ≢ x → count x (enter q l) ≡ count x l
-count-enter-other q x l n = omega (arith, count-enter q x l, if=-no {A = ℕ} q x 1 0 n)
-
 -- ---- leaving
 pub count-leave : (q x : ℕ) (l : List ℕ) → 1 ≤ count q l → if= q x 1 0 + count x (leave q l) ≡ count x l
 unfolding leave
@@ -28,30 +25,6 @@ count-leave q x [] h = absurd (omega (arith, count-nil q))
 count-leave q x (y ∷ l) h =
     by= y q (λ e. simp ifs (omega (arith, count-cons x y l, ap {B = ℕ} (λ (k : ℕ). if= k x 1 0) e)))
     (λ n. simp ifs (omega (arith, count-cons x y (leave q l), count-cons x y l, count-leave q x l (omega (arith, count-there y q l n)))))
-
-pub count-leave-self : (q : ℕ) (l : List ℕ) → 1 ≤ count q l → suc (count q (leave q l)) ≡ count q l
-count-leave-self q l h = omega (arith, count-leave q q l h, if=-yes {A = ℕ} q q 1 0 refl)
-
-pub count-leave-other : (q x : ℕ) (l : List ℕ) → q ≢ x → count x (leave q l) ≡ count x l
-unfolding leave
-count-leave-other q x [] n = refl
-count-leave-other q x (y ∷ l) n =
-    by= y q (λ e. let m : y ≢ x = (λ k. n (sym e ∙ k)) in simp ifs (sym (count-there y x l m)))
-    (λ m. simp ifs (omega (arith, count-cons x y (leave q l), count-cons x y l, count-leave-other q x l n)))
-
-pub count-leave-le : (q x : ℕ) (l : List ℕ) → count x (leave q l) ≤ count x l
-unfolding leave
-count-leave-le q x [] = omega arith
-count-leave-le q x (y ∷ l) =
-    by= y q (λ e. simp ifs (omega (arith, count-cons x y l)))
-    (λ n. simp ifs (omega (arith, count-cons x y (leave q l), count-cons x y l, count-leave-le q x l)))
-
-pub leave-absent : (q : ℕ) (l : List ℕ) → count q l ≡ 0 → leave q l ≡ l
-unfolding leave
-leave-absent q [] h = refl
-leave-absent q (y ∷ l) h =
-    by= y q (λ e. absurd (omega (arith, count-cons q y l, if=-yes {A = ℕ} y q 1 0 e)))
-    (λ n. simp ifs (ap (λ (k : List ℕ). y ∷ k) (leave-absent q l (omega (arith, count-there y q l n)))))
 
 -- ---- the block that is used
 pub used-counts : (x : ℕ) (l : List ℕ) → 1 ≤ count (used (x ∷ l)) (x ∷ l)
@@ -64,16 +37,7 @@ unfolding first
 used-counts-where-first [] n = absurd (n refl)
 used-counts-where-first (x ∷ l) n = used-counts x l
 
--- ---- another list for one size
-pub rebin-twice : (f : ℕ → List ℕ) (z : ℕ) (l m : List ℕ) (y : ℕ) → rebin (rebin f z l) z m y ≡ rebin f z m y
-unfolding rebin
-rebin-twice f z l m y = by= y z (λ e. simp ifs) (λ n. simp ifs)
-
-pub count-rebin : (f : ℕ → List ℕ) (z : ℕ) (l : List ℕ) (y q : ℕ) → count q (rebin f z l y) ≡ if= y z (count q l) (count q (f y))
-unfolding rebin
-count-rebin f z l y q = by= y z (λ e. simp ifs) (λ n. simp ifs)
-
--- a start enters a bin, and one leaves it: at each size and start
+-- ---- another list for one size: a start enters a bin, and one leaves it, at each size and start
 pub count-rebin-enter : (f : ℕ → List ℕ) (z q y x : ℕ) → count x (rebin f z (enter q (f z)) y) ≡ if= z y (if= q x 1 0) 0 + count x (f y)
 unfolding rebin
 count-rebin-enter f z q y x =

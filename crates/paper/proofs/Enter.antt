@@ -2,22 +2,20 @@
 use mathlib.Core.List.{List, [], _++_, _∷_, append-assoc}
 use mathlib.Core.Logic.{_≢_, inr}
 use mathlib.Core.Option.{Option, none, some}
-use mathlib.Core.Path.{_∙_, _≡_, ap, fun-ext, refl, subst, sym}
+use mathlib.Core.Path.{_∙_, _≡_, ap, fun-ext, refl, sym}
 use Prim.Native.Nat.{_%_, _+_, _-_, _≤_, ℕ}
 use native.Mathlib.Omega.{arith}
-use lib.ListN.{length}
 use Rattle.heads.specs.Links.{linkWord}
 use Rattle.paper.proofs.Bins.{count-append, count-here, last-count, lastOr, next-last, next-p, prev-p}
 use Rattle.paper.proofs.Fields.{at-back, at-on, height-le}
 use Rattle.paper.proofs.Leave.{NothingNew, frame, index-same}
 use Rattle.paper.proofs.Leaving.{back-puts, later-above, later-bins, later-firsts, leaves, rebinned}
 use Rattle.paper.proofs.Listed.{Loose, rebin-other, rebin-same, start}
-use Rattle.paper.proofs.Stores.{Elsewhere, Good, finish, puts}
+use Rattle.paper.proofs.Stores.{Elsewhere, Good}
 use Rattle.paper.proofs.Walk.{in-aligned}
 use Rattle.paper.specs.Bins.{count, first, nextIn, prevIn, rebin}
 use Rattle.paper.specs.Blocks.{State, block, blocks, end, free}
 use Rattle.paper.specs.Governed.{height, link, sheet}
-use Rattle.paper.specs.Sheet.{Holds, write}
 use Rattle.words.specs.Choice.{by=, if=}
 
 last-snoc : (r p : ℕ) (us : List ℕ) → lastOr r (us ++ p ∷ []) ≡ p
@@ -109,12 +107,6 @@ module _ (s : State) (W : Loose s) (z p u : ℕ) (us vs : List ℕ) (is-in : s .
             ),
             tt,
           )
-
-  pub enter-later : (bs : List ℕ) → length bs ≡ end s → Holds (sheet (rebinned s z (u ∷ us ++ vs))) bs
-      → puts (enter-puts u us p vs) bs ≡ write (sheet s) bs
-  enter-later bs l h =
-      finish (sheet (rebinned s z (u ∷ us ++ vs))) (sheet s) bs (enter-puts u us p vs) h
-      (subst (λ (n : ℕ). Good (sheet s) n (enter-puts u us p vs)) (sym l) enter-good) (λ a al _ o. enter-frame a al o)
 
 -- the state to enter from is the state without
 pub rebin-back : (b : ℕ → List ℕ) (z : ℕ) (l l' : List ℕ) → b z ≡ l → rebin (rebin b z l') z l ≡ b

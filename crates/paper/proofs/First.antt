@@ -2,10 +2,9 @@
 use mathlib.Core.List.{List, [], _++_, _∷_}
 use mathlib.Core.Logic.{_≢_, _⊎_, inl, inr}
 use mathlib.Core.Option.{none, some}
-use mathlib.Core.Path.{_∙_, _≡_, ap, refl, subst, sym}
+use mathlib.Core.Path.{_∙_, _≡_, ap, refl, sym}
 use Prim.Native.Nat.{_%_, _*_, _+_, _-_, _<_, _≤_, suc, ℕ}
 use native.Mathlib.Omega.{arith}
-use lib.ListN.{length}
 use Rattle.heads.specs.Links.{linkWord}
 use Rattle.paper.proofs.Bins.{count-append, count-here, first-count, lastOr, next-absent, prev-absent, prev-p}
 use Rattle.paper.proofs.Fields.{at-back, at-level, at-word, false-word, height-le}
@@ -14,12 +13,11 @@ use Rattle.paper.proofs.Leaving.{back-puts, leaves, leaving-loose, once
 use Rattle.paper.proofs.Listed.{Loose, rebin-other, rebin-same, start}
 use Rattle.paper.proofs.Seek.{seek-found, seek-gap, seek-keep, seek-other, seek-past}
 use Rattle.paper.proofs.StoreRuns.{each, elsewhere-append, elsewhere-each, good-append, good-each}
-use Rattle.paper.proofs.Stores.{Elsewhere, Good, finish, puts}
+use Rattle.paper.proofs.Stores.{Elsewhere, Good}
 use Rattle.paper.proofs.Walk.{In, in-aligned, in-low, in-unique}
 use Rattle.paper.specs.Bins.{count, first, prevIn, rebin}
 use Rattle.paper.specs.Blocks.{State, block, blocks, end, free, size}
 use Rattle.paper.specs.Governed.{above, height, index, link, reach, sheet}
-use Rattle.paper.specs.Sheet.{Holds, write}
 use Rattle.words.specs.Choice.{by<, by=, if<-no, if<-yes, if=, ifs}
 
 -- of those that reach level j, the one before bin z: a smaller bin's first block, or the false block
@@ -301,9 +299,3 @@ module _ (s : State) (W : Loose s) (z p : ℕ) (vs : List ℕ) (is-in : s .bins 
                     at-word s' (w j) (y₀ j) (f .0) (f .1) (b .2) (ap first by ∙ r .0) j j1 (omega (arith, r .1, th (y₀ j))) (W' .top13)
                         ∙ ap (λ (v : ℕ). some (linkWord (w j) v)) (ab j (y₀ j) ∙ new-above j j1 l),
                   )
-
-    pub leave-first : (bs : List ℕ) → length bs ≡ end s → Holds (sheet s) bs → puts (first-puts s z w vs) bs ≡ write (sheet (rebinned s z vs)) bs
-    leave-first bs l h =
-        finish (sheet s) (sheet (rebinned s z vs)) bs (first-puts s z w vs) h
-        (subst (λ (n : ℕ). Good (sheet (rebinned s z vs)) n (first-puts s z w vs)) (sym l)
-        (first-good (rebinned s z vs) (leaving-loose s W z p [] vs is-in large) refl refl refl)) (λ a al _ o. first-frame a al o)

@@ -26,10 +26,6 @@ abbrev pub Past : List (ℕ × ℕ) → Type 0
 Past [] = Unit {0}
 Past (p ∷ ps) = (4 ≤ p .0) × Past ps
 
-pub past-append : (ps qs : List (ℕ × ℕ)) → Past ps → Past qs → Past (ps ++ qs)
-past-append [] qs h k = k
-past-append (p ∷ ps) qs h k = (h .0, past-append ps qs (h .1) k)
-
 pub past-word : (ps : List (ℕ × ℕ)) (bs : List ℕ) → Past ps → wordAt 4 (puts ps bs) 0 ≡ wordAt 4 bs 0
 past-word [] bs h = refl
 past-word (p ∷ ps) bs h = past-word ps (putAt 4 bs (p .0) (p .1)) (h .1) ∙ word-apart 4 bs 0 4 (p .0) (p .1) (inl (h .0))

@@ -2,21 +2,19 @@
 use mathlib.Core.List.{List, [], _++_, _∷_}
 use mathlib.Core.Logic.{_≢_, inl, inr}
 use mathlib.Core.Option.{Option, none, some}
-use mathlib.Core.Path.{_∙_, _≡_, ap, refl, subst, sym}
+use mathlib.Core.Path.{_∙_, _≡_, ap, refl, subst}
 use Prim.Native.Nat.{_%_, _+_, _-_, _≤_, suc, ℕ}
 use native.Mathlib.Omega.{arith}
-use lib.ListN.{length}
 use Rattle.heads.specs.Links.{linkWord}
 use Rattle.paper.proofs.Bins.{count-append, count-here, count-there, last-count, lastOr, next-absent, next-last, prev-absent, prev-p}
 use Rattle.paper.proofs.Fields.{at-back, at-on, height-le}
 use Rattle.paper.proofs.Leave.{NothingNew, Leaves, above-same, frame, index-same, reach-same, with-bins}
 use Rattle.paper.proofs.Listed.{Loose, rebin-other, rebin-same, start}
-use Rattle.paper.proofs.Stores.{Elsewhere, Good, finish, puts}
+use Rattle.paper.proofs.Stores.{Elsewhere, Good}
 use Rattle.paper.proofs.Walk.{In, in-aligned}
 use Rattle.paper.specs.Bins.{count, first, nextIn, prevIn, rebin}
 use Rattle.paper.specs.Blocks.{State, block, blocks, end, free}
 use Rattle.paper.specs.Governed.{above, height, link, sheet}
-use Rattle.paper.specs.Sheet.{Holds, write}
 use Rattle.words.specs.Choice.{by=, if=}
 
 abbrev pub rebinned : State → ℕ → List ℕ → State
@@ -149,10 +147,3 @@ module _ (s : State) (z u : ℕ) (us vs : List ℕ) where
                 ),
                 tt,
               )
-
-    pub leave-later : (bs : List ℕ) → length bs ≡ end s → Holds (sheet s) bs
-        → puts (later-puts u us vs) bs ≡ write (sheet (rebinned s z (u ∷ us ++ vs))) bs
-    leave-later bs l h =
-        finish (sheet s) (sheet (rebinned s z (u ∷ us ++ vs))) bs (later-puts u us vs) h
-        (subst (λ (n : ℕ). Good (sheet (rebinned s z (u ∷ us ++ vs))) n (later-puts u us vs)) (sym l)
-        (later-good (rebinned s z (u ∷ us ++ vs)) (leaving-loose s W z p (u ∷ us) vs is-in large) refl)) (λ a al _ o. later-frame a al o)

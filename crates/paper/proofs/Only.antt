@@ -2,10 +2,9 @@
 use mathlib.Core.List.{List, [], _++_, _∷_}
 use mathlib.Core.Logic.{_≢_, _⊎_, inl, inr}
 use mathlib.Core.Option.{none, some}
-use mathlib.Core.Path.{_∙_, _≡_, ap, refl, subst, sym}
+use mathlib.Core.Path.{_∙_, _≡_, ap, refl, sym}
 use Prim.Native.Nat.{_%_, _*_, _+_, _-_, _<_, _≤_, ℕ}
 use native.Mathlib.Omega.{arith}
-use lib.ListN.{length}
 use Rattle.heads.specs.Links.{linkWord}
 use Rattle.paper.proofs.Bins.{first-count, lastOr, next-p, prev-p}
 use Rattle.paper.proofs.Fields.{at-back, at-level, at-on, at-word, false-word, height-le}
@@ -14,12 +13,11 @@ use Rattle.paper.proofs.Leave.{NothingNew, frame, index-none, index-sam
 use Rattle.paper.proofs.Leaving.{leaves, rebinned}
 use Rattle.paper.proofs.Listed.{Loose, rebin-other, start}
 use Rattle.paper.proofs.StoreRuns.{each, elsewhere-append, elsewhere-each, good-append, good-each}
-use Rattle.paper.proofs.Stores.{Elsewhere, Good, finish, puts}
+use Rattle.paper.proofs.Stores.{Elsewhere, Good}
 use Rattle.paper.proofs.Walk.{In, in-aligned, in-low}
 use Rattle.paper.specs.Bins.{count, first, nextIn, prevIn, rebin}
 use Rattle.paper.specs.Blocks.{State, block, blocks, end, free}
 use Rattle.paper.specs.Governed.{above, height, index, link, reach, sheet}
-use Rattle.paper.specs.Sheet.{Holds, write}
 use Rattle.words.specs.Choice.{by=, if=, ifs}
 
 unfoldable pub only-puts : State → ℕ → ℕ → (ℕ → ℕ) → List (ℕ × ℕ)
@@ -130,8 +128,3 @@ module _ (s : State) (W : Loose s) (z p : ℕ) (is-in : s .bins z ≡ p ∷ []) 
             omega arith,
             at-word s (w j) (y₀ j) (g .0) (g .1) (b .2) (r .0) j j1 (r .1) (W .top13) ∙ ap (λ (v : ℕ). some (linkWord (w j) v)) (new j j1 l),
           )
-
-  pub enter-only : (bs : List ℕ) → length bs ≡ end s → Holds (sheet (rebinned s z [])) bs → puts (only-puts s z p w) bs ≡ write (sheet s) bs
-  enter-only bs l h =
-      finish (sheet (rebinned s z [])) (sheet s) bs (only-puts s z p w) h
-      (subst (λ (n : ℕ). Good (sheet s) n (only-puts s z p w)) (sym l) only-good) (λ a al _ o. only-frame a al o)

@@ -1,6 +1,6 @@
 -- Every change of blocks has one form: past xs, the run ms becomes ms', as long, below zs. So one frame law serves all.
 use mathlib.Core.List.{List, [], _++_, _∷_}
-use mathlib.Core.Logic.{_≢_, inr}
+use mathlib.Core.Logic.{inr}
 use mathlib.Core.Option.{Option, some}
 use mathlib.Core.Path.{_∙_, _≡_, ap, refl, subst, sym}
 use Prim.Native.Nat.{_%_, _+_, _-_, _/_, _<_, _≤_, ℕ}
@@ -38,16 +38,9 @@ walk-left f [] ys p P a l m = absurd (omega arith)
 walk-left f (c ∷ ms) ys p P a l m =
     by< a (p + size c) (λ i. simp ifs) (λ i. simp ifs (walk-left f ms ys (p + size c) (flagAbove c) a i (omega arith)))
 
--- past the run: the same, where the flag is, or where it shows in the head of c alone
+-- past the run: the same, where the flag is
 pub after-same : (f : ℕ → Block → ℕ → ℕ → Option ℕ) (zs : List Block) (q P P' a : ℕ) → P' ≡ P → NothingNew (walk f zs q P' a) (walk f zs q P a)
 after-same f zs q P P' a e = inr (ap (λ (k : ℕ). walk f zs q k a) e)
-
-pub after-head : (f : ℕ → Block → ℕ → ℕ → Option ℕ) (c : Block) (ys : List Block) (q P P' a : ℕ) → q ≤ a → a ≢ q
-    → ((o : ℕ) → o ≢ 0 → f q c P' o ≡ f q c P o)
-    → NothingNew (walk f (c ∷ ys) q P' a) (walk f (c ∷ ys) q P a)
-unfolding walk
-after-head f c ys q P P' a l n calm =
-    by< a (q + size c) (λ i. inr (simp ifs (calm (a - q) (omega arith)))) (λ i. inr (simp ifs))
 
 pub seg-walk : (f : ℕ → Block → ℕ → ℕ → Option ℕ) (xs ms ms' zs : List Block) (a : ℕ) → total ms' ≡ total ms → 168 ≤ a
     → (168 + total xs + total ms ≤ a

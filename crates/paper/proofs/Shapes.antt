@@ -5,7 +5,7 @@ use mathlib.Core.Logic.{_⊎_, inl, inr}
 use mathlib.Core.Path.{_∙_, _≡_, ap, refl}
 use Prim.Native.Nat.{_+_, _≤_, ℕ}
 use native.Mathlib.Omega.{arith}
-use Rattle.paper.proofs.LowHigh.{high-append, high-parts, low-append}
+use Rattle.paper.proofs.LowHigh.{high-append, high-parts}
 use Rattle.paper.specs.Blocks.{Block, block, free, held, remainder, total}
 use Rattle.paper.specs.Layout.{large}
 use Rattle.paper.specs.Runs.{endsAt, freeSize}
@@ -33,15 +33,6 @@ low-held (block y free ∷ block x held ∷ us) z vs h = let r = low-held us z v
 low-held (block y free ∷ block x free ∷ us) z vs h = absurd h
 low-held (block y free ∷ block x remainder ∷ us) z vs h = absurd h
 
-pub held-low : (us : List Block) (z : ℕ) (vs : List Block) → Open us → large ≤ z → Low vs → Low (us ++ block z held ∷ vs)
-held-low [] z vs h l k = (l, k)
-held-low (block y held ∷ us) z vs h l k = (h .0, held-low us z vs (h .1) l k)
-held-low (block y remainder ∷ us) z vs h l k = absurd h
-held-low (block y free ∷ []) z vs h l k = (h, l, k)
-held-low (block y free ∷ block x held ∷ us) z vs h l k = (h .0, h .1, held-low us z vs (h .2) l k)
-held-low (block y free ∷ block x free ∷ us) z vs h l k = absurd h
-held-low (block y free ∷ block x remainder ∷ us) z vs h l k = absurd h
-
 -- ---- around a free block: below it nothing or a held one, above it a held one
 
 pub low-free : (us : List Block) (z : ℕ) (vs : List Block) → Low (us ++ block z free ∷ vs)
@@ -58,19 +49,6 @@ low-free (block x free ∷ block w held ∷ us) z vs h =
     let r = low-free us z vs (h .2) in ((h .0, h .1, r .0), r .1, r .2, r .3, r .4, r .5, r .6)
 low-free (block x free ∷ block w free ∷ us) z vs h = absurd h
 low-free (block x free ∷ block w remainder ∷ us) z vs h = absurd h
-
-pub free-low : (us : List Block) (z y : ℕ) (ws : List Block) → Low us → large ≤ z → large ≤ y → Low ws
-    → Low (us ++ block z free ∷ block y held ∷ ws)
-free-low us z y ws h l m k = low-append us (block z free ∷ block y held ∷ ws) h (l, m, k)
-
-pub low-open : (us : List Block) → Low us → Open us
-low-open [] h = tt
-low-open (block y held ∷ us) h = (h .0, low-open us (h .1))
-low-open (block y remainder ∷ us) h = absurd h
-low-open (block y free ∷ []) h = absurd h
-low-open (block y free ∷ block x held ∷ us) h = (h .0, h .1, low-open us (h .2))
-low-open (block y free ∷ block x free ∷ us) h = absurd h
-low-open (block y free ∷ block x remainder ∷ us) h = absurd h
 
 -- ---- the last block is free, or the run could stand alone
 

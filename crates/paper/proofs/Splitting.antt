@@ -1,7 +1,7 @@
 -- A run of blocks taken apart at a place and put together again: the blocks below the place, a middle part, the blocks above it.
 -- By induction on the part below, whose blocks are not empty, so that no earlier block starts or ends at the place.
 use mathlib.Core.List.{List, [], _++_, _∷_, append-assoc}
-use mathlib.Core.Logic.{_≢_, inl, inr}
+use mathlib.Core.Logic.{inl, inr}
 use mathlib.Core.Path.{_∙_, _≡_, ap, refl, subst, sym}
 use Prim.Native.Nat.{_+_, _<_, _≤_, ℕ}
 use native.Mathlib.Nat.{add-zero}
@@ -57,11 +57,6 @@ unfolding endsAt
 ends-below f [] p q s l = refl
 ends-below f (b ∷ xs) p q s l = if=-no (p + size b) q _ _ (omega (arith, s .0)) ∙ ends-below f xs (p + size b) q (s .1) (omega arith)
 
-pub ends-past : (f : Block → ℕ) (xs : List Block) (p q : ℕ) → p + total xs < q → endsAt f xs p q ≡ 0
-unfolding endsAt
-ends-past f [] p q l = refl
-ends-past f (b ∷ xs) p q l = if=-no (p + size b) q _ _ (omega arith) ∙ ends-past f xs (p + size b) q (omega arith)
-
 pub starts-append : (f : Block → ℕ) (us vs : List Block) (p q : ℕ) → Sized us
     → startsAt f (us ++ vs) p q ≡ startsAt f us p q + startsAt f vs (p + total us) q
 unfolding startsAt
@@ -109,23 +104,6 @@ unfolding endsAt
 ends-here f [] b vs p q s e = if=-yes (p + size b) q _ _ (omega arith)
 ends-here f (c ∷ us) b vs p q s e = if=-no (p + size c) q _ _ (omega arith) ∙ ends-here f us b vs (p + size c) q s (omega arith)
 
--- no block starts, or ends, inside another
-pub starts-inside : (f : Block → ℕ) (us : List Block) (b : Block) (vs : List Block) (p q : ℕ) → p + total us < q → q < p + total us + size b
-    → Sized us → startsAt f (us ++ b ∷ vs) p q ≡ 0
-unfolding startsAt
-starts-inside f us b vs p q l m s =
-    starts-append f us (b ∷ vs) p q s
-    ∙ (let n : p + total us ≢ q = omega arith in simp ifs
-    (omega (arith, starts-past f us p q s (omega arith), starts-below f vs (p + total us + size b) q m)))
-
-pub ends-inside : (f : Block → ℕ) (us : List Block) (b : Block) (vs : List Block) (p q : ℕ) → p + total us < q → q < p + total us + size b
-    → Sized (b ∷ vs) → endsAt f (us ++ b ∷ vs) p q ≡ 0
-unfolding endsAt
-ends-inside f us b vs p q l m s =
-    ends-append f us (b ∷ vs) p q s
-    ∙ (let n : p + total us + size b ≢ q = omega arith in simp ifs
-    (omega (arith, ends-past f us p q l, ends-below f vs (p + total us + size b) q (s .1) (omega arith))))
-
 -- conversely, something said means a block there
 pub starts-split : (f : Block → ℕ) (xs : List Block) (p q : ℕ) → 1 ≤ startsAt f xs p q
     → (us : List Block) × (b : Block) × (vs : List Block) × (xs ≡ us ++ b ∷ vs) × (p + total us ≡ q) × (f b ≡ startsAt f xs p q)
@@ -136,29 +114,6 @@ starts-split f (c ∷ xs) p q h =
     (λ n. let h' : 1 ≤ startsAt f xs (p + size c) q = simp ifs at h in
     let r = starts-split f xs (p + size c) q h' in
     (c ∷ r .0, r .1, r .2, ap (λ (l : List Block). c ∷ l) (r .3), omega (arith, r .4), r .5 ∙ sym (if=-no p q _ _ n)))
-
-pub ends-split : (f : Block → ℕ) (xs : List Block) (p q : ℕ) → 1 ≤ endsAt f xs p q
-    → (us : List Block) × (b : Block) × (vs : List Block) × (xs ≡ us ++ b ∷ vs) × (p + total us + size b ≡ q) × (f b ≡ endsAt f xs p q)
-unfolding endsAt
-ends-split f [] p q h = absurd (omega arith)
-ends-split f (c ∷ xs) p q h =
-    by= (p + size c) q (λ e. ([], c, xs, refl, omega arith, sym (if=-yes (p + size c) q _ _ e)))
-    (λ n. let h' : 1 ≤ endsAt f xs (p + size c) q = simp ifs at h in
-    let r = ends-split f xs (p + size c) q h' in
-    (c ∷ r .0, r .1, r .2, ap (λ (l : List Block). c ∷ l) (r .3), omega (arith, r .4), r .5 ∙ sym (if=-no (p + size c) q _ _ n)))
-
--- where no block starts, or ends, nothing is said
-pub starts-none : (f : Block → ℕ) (xs : List Block) (p q : ℕ)
-    → ((us : List Block) (b : Block) (vs : List Block) → xs ≡ us ++ b ∷ vs → p + total us ≢ q) → startsAt f xs p q ≡ 0
-starts-none f xs p q h =
-    by= (startsAt f xs p q) 0 (λ e. e)
-    (λ n. let r = starts-split f xs p q (omega arith) in absurd (h (r .0) (r .1) (r .2) (r .3) (r .4)))
-
-pub ends-none : (f : Block → ℕ) (xs : List Block) (p q : ℕ)
-    → ((us : List Block) (b : Block) (vs : List Block) → xs ≡ us ++ b ∷ vs → p + total us + size b ≢ q) → endsAt f xs p q ≡ 0
-ends-none f xs p q h =
-    by= (endsAt f xs p q) 0 (λ e. e)
-    (λ n. let r = ends-split f xs p q (omega arith) in absurd (h (r .0) (r .1) (r .2) (r .3) (r .4)))
 
 -- ---- a block of the walk
 
@@ -207,9 +162,6 @@ pub sumOf-append : (f : Block → ℕ) (xs ys : List Block) → sumOf f (xs ++ y
 unfolding sumOf
 sumOf-append f [] ys = omega arith
 sumOf-append f (b ∷ xs) ys = omega (arith, sumOf-append f xs ys)
-
-pub sumOf-mid : (f : Block → ℕ) (us ms vs : List Block) → sumOf f (us ++ (ms ++ vs)) ≡ sumOf f us + (sumOf f ms + sumOf f vs)
-sumOf-mid f us ms vs = omega (arith, sumOf-append f us (ms ++ vs), sumOf-append f ms vs)
 
 pub freeAt-mid : (us ms vs : List Block) (p a e y q : ℕ) → p + total us ≡ a → a + total ms ≡ e
     → freeAt (us ++ (ms ++ vs)) p y q ≡ freeAt us p y q + (freeAt ms a y q + freeAt vs e y q)

@@ -12,13 +12,13 @@ use Rattle.heads.specs.Heads.{headOf}
 use Rattle.heads.specs.declared.head.Head.{Head}
 use Rattle.paper.proofs.Readings.{head-reads, low-reads, rest-reads}
 use Rattle.paper.proofs.Stands.{Stands}
-use Rattle.paper.proofs.Walk.{In, flagPast, in-flag, in-left, in-mid, sized-parts, total-append}
+use Rattle.paper.proofs.Walk.{In, in-flag, in-left, in-mid, sized-parts, total-append}
 use Rattle.paper.specs.Blocks.{Block, Kind, State, block, blocks, free, held, remainder, size, total}
 use Rattle.paper.specs.Governed.{flagAbove, headWord, heldBit}
 use Rattle.paper.specs.Granting.{E, R}
 use Rattle.paper.specs.Layout.{blocks-at, end-at, start-at}
 use Rattle.paper.specs.Runs.{under}
-use Rattle.paper.specs.Sound.{Low, Sized}
+use Rattle.paper.specs.Sound.{Sized}
 use Rattle.walk.specs.Blocks.{along, blocksFrom, headAt, poolEnd}
 use Rattle.words.proofs.Laws.{word-out}
 use Rattle.words.specs.Choice.{by<, if<-no, if<-yes, if=, if=-no, if=-yes}
@@ -96,16 +96,6 @@ unfolding under
 under-all [] p to s l = refl
 under-all (b ∷ xs) p to s l =
     if<-yes p to _ _ (omega (arith, s .0)) ∙ ap (λ (ys : List Block). b ∷ ys) (under-all xs (p + size b) to (s .1) (omega arith))
-
--- the flag past the large blocks is 1: the last of them is held
-pub low-flag : (xs : List Block) → Low xs → flagPast 1 xs ≡ 1
-low-flag [] l = refl
-low-flag (block z held ∷ xs) l = low-flag xs (l .1)
-low-flag (block z remainder ∷ xs) l = absurd l
-low-flag (block z free ∷ []) l = absurd l
-low-flag (block z free ∷ block y held ∷ xs) l = low-flag xs (l .2)
-low-flag (block z free ∷ block y free ∷ xs) l = absurd l
-low-flag (block z free ∷ block y remainder ∷ xs) l = absurd l
 
 -- ---- the two runs of a pool
 module _ (s : State) (bs : List ℕ) (S : Stands s bs) where
