@@ -22,7 +22,7 @@ pub fn put_byte(s: &mut [u8], at: usize, v: u8)
     }
 }
 
-// The word of 4 bytes at `at`. Behind one test the four reads compile to one load.
+// The word of 4 bytes at `at`. One test tells the common case, four plain reads, from the last bytes of the buffer.
 pub fn get32(s: &[u8], at: usize) -> u32
     ensures { λ r. ⌜ r ≡ wordAt 4 (now (s .entry)) at ⌝ }
 {
@@ -47,7 +47,7 @@ fn wide(b: u8) -> u32
     b as u32
 }
 
-// Stores the word of 4 bytes at `at`; behind one test the four stores compile to one.
+// Stores the word of 4 bytes at `at`. One test tells the common case from the last bytes of the buffer.
 pub fn put32(s: &mut [u8], at: usize, v: u32)
     ensures { λ _. ⌜ now (s .exit) ≡ putAt 4 (now (s .entry)) at v ⌝ }
 {
