@@ -22,21 +22,21 @@ pub fn put_byte(s: &mut [u8], at: usize, v: u8)
     }
 }
 
-// The word of 4 bytes at `at`. One test tells the common case, four plain reads, from the last bytes of the buffer.
+// The word of 4 bytes at `at`. The common case is four plain reads, which the machine does as one; the last bytes of the buffer
+// have a function of their own, for else the optimizer shares parts of the two ways and does not join the reads.
 pub fn get32(s: &[u8], at: usize) -> u32
     ensures { λ r. ⌜ r ≡ wordAt 4 (now (s .entry)) at ⌝ }
 {
     let n = s.len();
-    if n <= at {
-        return 0;
+    if n < 4 {
+        return get_last(s, at);
+    }
+    if n - 4 < at {
+        return get_last(s, at);
     }
     let a1 = at + 1;
     let a2 = a1 + 1;
     let a3 = a2 + 1;
-    if n - at < 4 {
-        return byte(s, at) as u32
-            + 256 * (byte(s, a1) as u32 + 256 * (byte(s, a2) as u32 + 256 * (byte(s, a3) as u32)));
-    }
     wide(s[at]) + 256 * (wide(s[a1]) + 256 * (wide(s[a2]) + 256 * wide(s[a3])))
 }
 
@@ -47,12 +47,31 @@ fn wide(b: u8) -> u32
     b as u32
 }
 
-// Stores the word of 4 bytes at `at`. One test tells the common case from the last bytes of the buffer.
+// The word of 4 bytes at `at`, wherever that is.
+fn get_last(s: &[u8], at: usize) -> u32
+    ensures { λ r. ⌜ r ≡ wordAt 4 (now (s .entry)) at ⌝ }
+{
+    if s.len() <= at {
+        return 0;
+    }
+    let a1 = at + 1;
+    let a2 = a1 + 1;
+    let a3 = a2 + 1;
+    wide(byte(s, at))
+        + 256 * (wide(byte(s, a1)) + 256 * (wide(byte(s, a2)) + 256 * wide(byte(s, a3))))
+}
+
+// Stores the word of 4 bytes at `at`. The common case is four plain stores, which the machine does as one, as in get32.
 pub fn put32(s: &mut [u8], at: usize, v: u32)
     ensures { λ _. ⌜ now (s .exit) ≡ putAt 4 (now (s .entry)) at v ⌝ }
 {
     let n = s.len();
-    if n <= at {
+    if n < 4 {
+        put_last(s, at, v);
+        return;
+    }
+    if n - 4 < at {
+        put_last(s, at, v);
         return;
     }
     let a1 = at + 1;
@@ -61,17 +80,29 @@ pub fn put32(s: &mut [u8], at: usize, v: u32)
     let v1 = v / 256;
     let v2 = v1 / 256;
     let v3 = v2 / 256;
-    if n - at < 4 {
-        put_byte(s, at, (v % 256) as u8);
-        put_byte(s, a1, (v1 % 256) as u8);
-        put_byte(s, a2, (v2 % 256) as u8);
-        put_byte(s, a3, (v3 % 256) as u8);
-        return;
-    }
     s[at] = (v % 256) as u8;
     s[a1] = (v1 % 256) as u8;
     s[a2] = (v2 % 256) as u8;
     s[a3] = (v3 % 256) as u8;
+}
+
+// Stores the word of 4 bytes at `at`, wherever that is.
+fn put_last(s: &mut [u8], at: usize, v: u32)
+    ensures { λ _. ⌜ now (s .exit) ≡ putAt 4 (now (s .entry)) at v ⌝ }
+{
+    if s.len() <= at {
+        return;
+    }
+    let a1 = at + 1;
+    let a2 = a1 + 1;
+    let a3 = a2 + 1;
+    let v1 = v / 256;
+    let v2 = v1 / 256;
+    let v3 = v2 / 256;
+    put_byte(s, at, (v % 256) as u8);
+    put_byte(s, a1, (v1 % 256) as u8);
+    put_byte(s, a2, (v2 % 256) as u8);
+    put_byte(s, a3, (v3 % 256) as u8);
 }
 
 // The word of 8 bytes at `at`.
