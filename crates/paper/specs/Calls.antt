@@ -1,9 +1,9 @@
 -- "What the board hears": the answer of every public call and every lent byte afterwards. "Tests run in the order 1, 2, then the call's own."
 -- "After a call each governed byte has the value that the new blocks and lists give it; every other byte of the pool keeps its old value."
 use mathlib.Core.Path.{_≡_}
-use mathlib.Core.List.{List, []}
-use Prim.Native.Nat.{ℕ, _-_}
-use lib.ListN.{length, take as firsts, drop}
+use mathlib.Core.List.{List}
+use Prim.Native.Nat.{ℕ, _+_, _-_}
+use lib.ListN.{length}
 use Rattle.words.specs.Choice.{if=, when}
 use Rattle.paper.specs.declared.Answer.{Answer}
 use Rattle.paper.specs.declared.Answer.the-variants.{Done, Refused}
@@ -63,11 +63,16 @@ askCall misfit offset = Refused not-allowed
 askCall broken offset = Refused not-sound
 askCall (sound s) offset = ask s offset
 
--- "A refused lend returns the empty part at the pool's end."
-abbrev pub lendCall : Reading → List ℕ → ℕ → List ℕ
-lendCall misfit bs offset = []
-lendCall broken bs offset = []
-lendCall (sound s) bs offset = firsts (heldAt s offset - 4) (drop offset bs)
+-- "A refused lend returns the empty part at the pool's end.": where the part starts and where it ends
+abbrev pub lendFrom : Reading → List ℕ → ℕ → ℕ
+lendFrom misfit bs offset = length bs
+lendFrom broken bs offset = length bs
+lendFrom (sound s) bs offset = if= (heldAt s offset) 0 (length bs) offset
+
+abbrev pub lendTo : Reading → List ℕ → ℕ → ℕ
+lendTo misfit bs offset = length bs
+lendTo broken bs offset = length bs
+lendTo (sound s) bs offset = if= (heldAt s offset) 0 (length bs) (offset + (heldAt s offset - 4))
 
 abbrev pub figuresCall : Reading → Tally
 figuresCall misfit = Uncounted not-allowed

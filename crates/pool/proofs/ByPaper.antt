@@ -13,7 +13,7 @@ use Rattle.paper.specs.declared.Answer.the-variants.{Done, Refused}
 use Rattle.paper.specs.declared.Tally.the-variants.{Counted, Refused as Uncounted}
 use Rattle.paper.specs.Answers.{out, not-allowed, not-sound, not-held}
 use Rattle.paper.specs.Blocks.{State, block, blocks, held}
-use Rattle.paper.specs.Calls.{Reading, Reads, misfit, broken, sound, inspectCall, askCall, lendCall, figuresCall}
+use Rattle.paper.specs.Calls.{Reading, Reads, misfit, broken, sound, inspectCall, askCall, lendFrom, lendTo, figuresCall}
 use Rattle.paper.specs.GivingBack.{heldAt, ask as paperAsk}
 use Rattle.paper.proofs.HeldPlaces.{held-place, held-at-lies}
 use Rattle.paper.proofs.HeldWalk.{held-in}
@@ -24,8 +24,8 @@ use Rattle.walk.specs.LookUp.{heldAt as heldAtBytes}
 use Rattle.walk.proofs.HeldRead.{held-at-read}
 use Rattle.walk.proofs.FiguresRead.{figures-read}
 use Rattle.pool.specs.Read.{read}
-use Rattle.pool.specs.Models.{refusalOf, checked, lookUp, found, lent, inspect as inspect-model, ask as ask-model, part as part-model, figures as figures-model}
-use Rattle.pool.specs.Calls.{inspect, ask, part, figures}
+use Rattle.pool.specs.Models.{refusalOf, checked, lookUp, found, lent, lendable, inspect as inspect-model, ask as ask-model, partFrom as from-model, partTo as to-model, figures as figures-model}
+use Rattle.pool.specs.Calls.{inspect, ask, partFrom, partTo, figures}
 use Rattle.pool.proofs.Readings.{reads, misfit-refused, broken-refused, sound-served}
 
 module _ (bs : List ℕ) where
@@ -132,20 +132,34 @@ module _ (bs : List ℕ) where
         (λ e. rw (look-up-none offset s k e) (omega arith))
         (λ n. rw (look-up-held offset s k n) (less-four s k offset n))
 
-    lend-by : (offset : ℕ) (x : Reading) → Reads bs x → part-model bs offset ≡ lendCall x bs offset
-    unfolding part-model
-    lend-by offset misfit k = if=-yes (lent bs offset) 0 _ _ (none-lent offset (look-up-misfit offset k))
-    lend-by offset broken k = if=-yes (lent bs offset) 0 _ _ (none-lent offset (look-up-broken offset k))
-    lend-by offset (sound s) k =
+    -- what can be lent is what is held: there it is at least 4 bytes, and they end within the pool
+    lendable-held : (offset refused done : ℕ) (s : State) → Reads bs (sound s) → lendable bs offset refused done ≡ if= (heldAt s offset) 0 refused done
+    lendable-held offset refused done s k =
         let e = lent-by offset s k in
         by= (heldAt s offset) 0
-        (λ z. let n : lent bs offset ≡ 0 = e ∙ omega arith in
-        let m : heldAt s offset - 4 ≡ 0 = omega arith in
-        if=-yes (lent bs offset) 0 _ _ n ∙ sym (ap (λ (t : ℕ). firsts t (drop offset bs)) m))
+        (λ z. if=-yes (lent bs offset) 0 _ _ (e ∙ omega arith) ∙ sym (if=-yes (heldAt s offset) 0 _ _ z))
         (λ n. let h = held-inside s k offset n in
         if=-no (lent bs offset) 0 _ _ (λ z. omega (arith, h, e)) ∙ if<-no (length bs) (offset + lent bs offset) _ _ (omega (arith, h, e))
-        ∙ ap (λ (t : ℕ). firsts t (drop offset bs)) e)
+        ∙ sym (if=-no (heldAt s offset) 0 _ _ n))
 
-    pub lend-paper : (offset : ℕ) → part-model bs offset ≡ part bs offset
-    unfolding part
-    lend-paper offset = lend-by offset (read bs) (reads bs bytes)
+    from-by : (offset : ℕ) (x : Reading) → Reads bs x → from-model bs offset ≡ lendFrom x bs offset
+    unfolding from-model
+    from-by offset misfit k = if=-yes (lent bs offset) 0 _ _ (none-lent offset (look-up-misfit offset k))
+    from-by offset broken k = if=-yes (lent bs offset) 0 _ _ (none-lent offset (look-up-broken offset k))
+    from-by offset (sound s) k = lendable-held offset (length bs) offset s k
+
+    to-by : (offset : ℕ) (x : Reading) → Reads bs x → to-model bs offset ≡ lendTo x bs offset
+    unfolding to-model
+    to-by offset misfit k = if=-yes (lent bs offset) 0 _ _ (none-lent offset (look-up-misfit offset k))
+    to-by offset broken k = if=-yes (lent bs offset) 0 _ _ (none-lent offset (look-up-broken offset k))
+    to-by offset (sound s) k =
+        lendable-held offset (length bs) (offset + lent bs offset) s k
+        ∙ ap (λ (t : ℕ). if= (heldAt s offset) 0 (length bs) (offset + t)) (lent-by offset s k)
+
+    pub from-paper : (offset : ℕ) → from-model bs offset ≡ partFrom bs offset
+    unfolding partFrom
+    from-paper offset = from-by offset (read bs) (reads bs bytes)
+
+    pub to-paper : (offset : ℕ) → to-model bs offset ≡ partTo bs offset
+    unfolding partTo
+    to-paper offset = to-by offset (read bs) (reads bs bytes)

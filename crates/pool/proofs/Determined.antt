@@ -1,11 +1,12 @@
--- The statement of each public call determines its outcome: two outcomes that it allows are equal, answer, part and every lent byte.
+-- The statement of each public call determines its outcome: two outcomes that it allows are equal, the answer and every lent byte; of lending, the part's bytes and place.
 use mathlib.Core.Path.{_≡_, ap, sym, _∙_}
 use mathlib.Core.List.{List}
 use Prim.Native.Nat.{ℕ}
+use denote.Ref.{RefT, ptr, now}
 use Rattle.paper.specs.declared.Answer.{Answer}
 use Rattle.paper.specs.declared.Tally.{Tally}
 use Rattle.paper.specs.Answers.{Out, out}
-use Rattle.pool.specs.Calls.{layOut, inspect, take, giveBack, ask, part, figures, classCount}
+use Rattle.pool.specs.Calls.{layOut, inspect, take, giveBack, ask, Lent, figures, classCount}
 
 -- an outcome is an answer and the bytes afterwards
 same-outcome : (o : Out) (r r' : Answer) (a a' : List ℕ) → o ≡ out r a → o ≡ out r' a' → (r ≡ r') × (a ≡ a')
@@ -31,13 +32,14 @@ module _ (bs : List ℕ) where
   pub ask-determined : (offset : ℕ) (r r' : Answer) → r ≡ ask bs offset → r' ≡ ask bs offset → r ≡ r'
   ask-determined offset = same-answer (ask bs offset)
 
-  -- of lend and of lend_mut: the part's bytes, and with them its length
-  pub lend-determined : (offset : ℕ) (p p' : List ℕ) → p ≡ part bs offset → p' ≡ part bs offset → p ≡ p'
-  lend-determined offset = same-answer (part bs offset)
-
   pub figures-determined : (r r' : Tally) → r ≡ figures bs → r' ≡ figures bs → r ≡ r'
   figures-determined = same-answer (figures bs)
 
   pub class-count-determined : (cs : List ℕ) (r r' : Answer) (a a' : List ℕ) → classCount bs cs ≡ out r a → classCount bs cs ≡ out r' a'
       → (r ≡ r') × (a ≡ a')
   class-count-determined cs = same-outcome (classCount bs cs)
+
+-- of lend and of lend_mut: the part's bytes and its place
+pub lend-determined : (pool : RefT (List ℕ)) (offset : ℕ) (r r' : RefT (List ℕ)) → Lent r pool offset → Lent r' pool offset
+    → (now r ≡ now r') × (ptr r ≡ ptr r')
+lend-determined pool offset r r' l l' = (l .bytes ∙ sym (l' .bytes), l .place ∙ sym (l' .place))

@@ -1,8 +1,8 @@
 pub mod Clearing
-pub mod Lent
 pub mod Refusals
 pub mod Readings
 pub mod ByPaper
+pub mod Lent
 pub mod StoredSheet
 pub mod LayOutPaper
 pub mod TakePaper

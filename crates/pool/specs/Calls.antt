@@ -1,10 +1,13 @@
 -- The public calls, by the paper: what each answers and every lent byte afterwards, as a function of its arguments and the bytes before.
+use mathlib.Core.Path.{_≡_}
 use mathlib.Core.List.{List}
-use Prim.Native.Nat.{ℕ}
+use Prim.Native.Nat.{ℕ, _+_, _-_}
+use lib.ListN.{take as firsts, drop}
+use denote.Ref.{RefT, ptr, now}
 use Rattle.paper.specs.declared.Answer.{Answer}
 use Rattle.paper.specs.declared.Tally.{Tally}
 use Rattle.paper.specs.Answers.{Out}
-use Rattle.paper.specs.Calls.{layOutCall, inspectCall, takeCall, giveBackCall, askCall, lendCall, figuresCall, classCountCall}
+use Rattle.paper.specs.Calls.{layOutCall, inspectCall, takeCall, giveBackCall, askCall, lendFrom, lendTo, figuresCall, classCountCall}
 use Rattle.pool.specs.Read.{read}
 
 unfoldable pub layOut : List ℕ → Out
@@ -22,9 +25,20 @@ giveBack bs offset = giveBackCall (read bs) bs offset
 unfoldable pub ask : List ℕ → ℕ → Answer
 ask bs offset = askCall (read bs) offset
 
--- the bytes that are lent
-unfoldable pub part : List ℕ → ℕ → List ℕ
-part bs offset = lendCall (read bs) bs offset
+-- the part that is lent: where it starts and ends, and its bytes
+unfoldable pub partFrom : List ℕ → ℕ → ℕ
+partFrom bs offset = lendFrom (read bs) bs offset
+
+unfoldable pub partTo : List ℕ → ℕ → ℕ
+partTo bs offset = lendTo (read bs) bs offset
+
+abbrev pub part : List ℕ → ℕ → List ℕ
+part bs offset = firsts (partTo bs offset - partFrom bs offset) (drop (partFrom bs offset) bs)
+
+-- a reference to it: its bytes, and its place, which is a block of memory and an offset there
+pub record Lent (r pool : RefT (List ℕ)) (offset : ℕ) : Type 0 where
+  pub bytes : now r ≡ part (now pool) offset
+  pub place : ptr r ≡ (ptr pool .0, ptr pool .1 + partFrom (now pool) offset)
 
 unfoldable pub figures : List ℕ → Tally
 figures bs = figuresCall (read bs)

@@ -1,7 +1,8 @@
 -- The models of the calls, on a list of bytes: each inspects, then works.
-use mathlib.Core.List.{List, []}
-use Prim.Native.Nat.{ℕ, _+_}
-use lib.ListN.{length, take as firsts, drop}
+use mathlib.Core.Path.{_≡_}
+use mathlib.Core.List.{List}
+use Prim.Native.Nat.{ℕ, _+_, _≤_}
+use lib.ListN.{length}
 use Rattle.words.specs.Choice.{if<, if=, when}
 use Rattle.words.specs.Sums.{minus}
 use Rattle.paper.specs.declared.Answer.{Answer}
@@ -16,6 +17,7 @@ use Rattle.giveback.specs.GiveBack.{giveBack as giveBackSound}
 use Rattle.walk.specs.LookUp.{heldAt}
 use Rattle.walk.specs.Tallies.{tally}
 use Rattle.walk.specs.Classes.{classCounts}
+use Rattle.pool.specs.declared.parts.Span.{Span}
 
 -- what every call asks first
 unfoldable pub refusalOf : List ℕ → ℕ
@@ -51,10 +53,23 @@ ask bs offset = found (lookUp bs offset) Refused (λ z. Done (minus z 4))
 unfoldable pub lent : List ℕ → ℕ → ℕ
 lent bs offset = found (lookUp bs offset) (λ k. 0) (λ z. minus z 4)
 
--- the bytes that are lent
-unfoldable pub part : List ℕ → ℕ → List ℕ
-part bs offset =
-    if= (lent bs offset) 0 [] (if< (length bs) (offset + lent bs offset) [] (firsts (lent bs offset) (drop offset bs)))
+-- whether they can be: there are some, and they end within the pool
+abbrev pub lendable : List ℕ → ℕ → ℕ → ℕ → ℕ
+lendable bs offset refused done = if= (lent bs offset) 0 refused (if< (length bs) (offset + lent bs offset) refused done)
+
+-- where the part that is lent starts and ends
+unfoldable pub partFrom : List ℕ → ℕ → ℕ
+partFrom bs offset = lendable bs offset (length bs) offset
+
+unfoldable pub partTo : List ℕ → ℕ → ℕ
+partTo bs offset = lendable bs offset (length bs) (offset + lent bs offset)
+
+-- the code's bounds of it, which lie within the pool
+pub record Bounds (bs : List ℕ) (offset : ℕ) (r : Span) : Type 0 where
+  pub starts : r .from ≡ partFrom bs offset
+  pub ends : r .to ≡ partTo bs offset
+  pub rises : r .from ≤ r .to
+  pub inside : r .to ≤ length bs
 
 unfoldable pub figures : List ℕ → Tally
 figures bs = checked bs Uncounted (Counted (tally bs))

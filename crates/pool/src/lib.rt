@@ -7,7 +7,7 @@ mod parts;
 
 ghost use mathlib.Core.Path.{_≡_};
 ghost use Rattle.paper.specs.Answers.{out};
-ghost use Rattle.pool.specs.Calls.{layOut, inspect as inspect-of, take as take-of, giveBack, ask as ask-of, part, figures as figures-of, classCount};
+ghost use Rattle.pool.specs.Calls.{layOut, inspect as inspect-of, take as take-of, giveBack, ask as ask-of, Lent, figures as figures-of, classCount};
 use paper::Answer;
 use paper::Tally;
 
@@ -48,14 +48,14 @@ pub fn ask(pool: &[u8], offset: u32) -> Answer
 
 // The payload at `offset`, for reading; the empty part at the pool's end where the call is refused.
 pub fn lend(pool: &[u8], offset: u32) -> &[u8]
-    ensures { λ r. ⌜ now r ≡ part (now (pool .entry)) offset ⌝ }
+    ensures { λ r. ⌜ Lent r (pool .entry) offset ⌝ }
 {
     parts::lend(pool, offset)
 }
 
 // The payload at `offset`, for writing; the empty part at the pool's end where the call is refused.
 pub fn lend_mut(pool: &mut [u8], offset: u32) -> &mut [u8]
-    ensures { λ r. ⌜ now r ≡ part (now (pool .entry)) offset ⌝ }
+    ensures { λ r. ⌜ Lent r (pool .entry) offset ⌝ }
 {
     parts::lend_mut(pool, offset)
 }

@@ -1,8 +1,15 @@
 // Lending a held payload: the caller's own bytes, as a part of the pool.
 ghost use mathlib.Core.Path.{_≡_};
-ghost use Rattle.pool.specs.Models.{lent as lent-of, part};
+ghost use Rattle.pool.specs.Models.{lent as lent-of, Bounds};
+ghost use Rattle.pool.specs.Calls.{Lent};
 use crate::calls::look_up;
 use paper::Answer;
+
+// A part of the pool, by the places where it starts and ends.
+pub struct Span {
+    pub from: usize,
+    pub to: usize,
+}
 
 // How many bytes of the payload at `offset` can be lent; 0 where the call is refused.
 fn lent(pool: &[u8], offset: u32) -> u32
@@ -15,36 +22,42 @@ fn lent(pool: &[u8], offset: u32) -> u32
     words::minus(z, 4)
 }
 
-// The payload at `offset`, for reading; the empty part at the pool's end where the call is refused.
-pub fn lend(pool: &[u8], offset: u32) -> &[u8]
-    ensures { λ r. ⌜ now r ≡ part (now (pool .entry)) offset ⌝ }
+// Where the part that is lent starts and ends; both are the pool's end where the call is refused.
+fn bounds(pool: &[u8], offset: u32) -> Span
+    ensures { λ r. ⌜ Bounds (now (pool .entry)) offset r ⌝ }
 {
     let n = pool.len();
     let len = lent(pool, offset) as usize;
     let at = offset as usize;
     if len == 0 {
-        return &pool[n..];
+        return Span { from: n, to: n };
     }
     if n < at + len {
-        return &pool[n..];
+        return Span { from: n, to: n };
     }
-    let end = at + len;
-    &pool[at..end]
+    Span {
+        from: at,
+        to: at + len,
+    }
 }
 
-// The payload at `offset`, for writing; the empty part at the pool's end where the call is refused.
-pub fn lend_mut(pool: &mut [u8], offset: u32) -> &mut [u8]
-    ensures { λ r. ⌜ now r ≡ part (now (pool .entry)) offset ⌝ }
+// The payload at `offset`, for reading; the empty part at the pool's end where the call is refused.
+pub fn lend(pool: &[u8], offset: u32) -> &[u8]
+    ensures { λ r. ⌜ Lent r (pool .entry) offset ⌝ }
 {
-    let n = pool.len();
-    let len = lent(pool, offset) as usize;
-    let at = offset as usize;
-    if len == 0 {
-        return &mut pool[n..];
-    }
-    if n < at + len {
-        return &mut pool[n..];
-    }
-    let end = at + len;
-    &mut pool[at..end]
+    let s = bounds(pool, offset);
+    let from = s.from;
+    let to = s.to;
+    &pool[from..to]
+}
+
+// The payload at `offset`, for writing; the empty part at the pool's end where the call is refused. The pool is read through `&`
+// alone before the part is made, so no byte can change: a contract cannot say that of a reference which goes into the result.
+pub fn lend_mut(pool: &mut [u8], offset: u32) -> &mut [u8]
+    ensures { λ r. ⌜ Lent r (pool .entry) offset ⌝ }
+{
+    let s = bounds(pool, offset);
+    let from = s.from;
+    let to = s.to;
+    &mut pool[from..to]
 }
