@@ -1,0 +1,170 @@
+"""tools/map: from a file to a picture. Asks probe for the verdict and the figures, and writes the picture whole or not at all."""
+
+import os
+import stat
+import subprocess
+import sys
+
+from pool import Pool
+from svg import picture
+
+TOOLS = os.path.dirname(os.path.dirname(os.path.abspath(__file__)))
+USAGE = "usage: tools/map IMAGE [OUT.svg] | tools/map --tape TAPE [OUT.svg]"
+GREATEST_POOL = 65536
+GREATEST_TAPE = 32768
+NO_POOL, NOT_DONE = 1, 2
+LAY_OUT, TAKE, GIVE_BACK, FIGURES = 1, 2, 3, 4
+
+
+class Stop(Exception):
+    """Ends the run with a message and a status."""
+
+    def __init__(self, status, text):
+        super().__init__(text)
+        self.status = status
+
+
+# The image
+
+
+def read_image(name):
+    """The file's bytes; one byte more than a pool may have is enough to refuse it."""
+    try:
+        with open(name, "rb") as file:
+            data = file.read(GREATEST_POOL + 1)
+    except OSError as error:
+        raise Stop(NOT_DONE, f"{name} cannot be read: {error.strerror}")
+    if not data:
+        raise Stop(NO_POOL, f"{name} is empty")
+    if len(data) > GREATEST_POOL:
+        raise Stop(NO_POOL, f"{name} has more than {GREATEST_POOL} bytes, which no pool has")
+    return data
+
+
+def read_tape(name):
+    """A text tape as records (kind, number). tools/tape says itself what it cannot read."""
+    done = subprocess.run([os.path.join(TOOLS, "tape"), name], stdout=subprocess.PIPE)
+    if done.returncode != 0:
+        raise Stop(done.returncode, None)
+    tape, at, records = done.stdout, 0, []
+    if len(tape) > GREATEST_TAPE:
+        raise Stop(NO_POOL, f"{name} has {len(tape)} bytes as a tape, and more than {GREATEST_TAPE} are refused with 7")
+    while at < len(tape):
+        length = 1 if tape[at] == FIGURES else 5
+        records.append((tape[at], int.from_bytes(tape[at + 1:at + length], "little")))
+        at += length
+    return records
+
+
+def run_tape(name):
+    """The pool after the tape's last record. A refused L keeps the old pool; an accepted one leaves nothing of it that is drawn,
+    so the run starts at the last accepted L."""
+    records = read_tape(name)
+    laid = [i for i, (kind, n) in enumerate(records) if kind == LAY_OUT and n % 8 == 0 and 176 <= n <= GREATEST_POOL]
+    if not laid:
+        raise Stop(NO_POOL, f"{name} lays out no pool")
+    n = records[laid[-1]][1]
+    commands = [image_command(bytes(n)), b"L"]
+    for kind, number in records[laid[-1] + 1:]:
+        if kind in (TAKE, GIVE_BACK):
+            commands.append((b"T" if kind == TAKE else b"G") + number.to_bytes(4, "little"))
+    return bytes.fromhex(ask_probe(commands + [b"D"])[-1].split()[-1])
+
+
+# Probe
+
+
+def image_command(data):
+    return b"I" + len(data).to_bytes(4, "little") + data
+
+
+def ask_probe(commands):
+    """One line for each command."""
+    try:
+        done = subprocess.run([os.path.join(TOOLS, "run"), "probe"], input=b"".join(commands), stdout=subprocess.PIPE)
+    except BrokenPipeError:
+        raise Stop(NOT_DONE, "probe did not read its commands")
+    lines = done.stdout.decode("ascii", "replace").splitlines()
+    if done.returncode != 0 or len(lines) != len(commands):
+        raise Stop(NOT_DONE, f"probe gave {len(lines)} lines for {len(commands)} commands, and the status {done.returncode}")
+    return lines
+
+
+def verdict(data):
+    """Inspection's answer, and the seven figures where it is 0."""
+    _, inspected, figures = ask_probe([image_command(data), b"N", b"S"])
+    return int(inspected.split()[1]), [int(word) for word in figures.split()[2:]]
+
+
+# The picture
+
+
+def write_whole(name, text):
+    """By way of a file beside it, so that a run that fails leaves no half picture and keeps the old one."""
+    name = os.path.realpath(name)
+    # renaming over a device such as /dev/null would replace the device
+    if os.path.exists(name) and not stat.S_ISREG(os.stat(name).st_mode):
+        raise Stop(NOT_DONE, f"{name} is no file that could be written")
+    part = f"{name}.{os.getpid()}.part"
+    try:
+        with open(part, "x", encoding="utf-8") as file:
+            file.write(text)
+        os.replace(part, name)
+    except OSError as error:
+        if os.path.exists(part):
+            os.remove(part)
+        raise Stop(NOT_DONE, f"{name} cannot be written: {error.strerror}")
+
+
+def put(out, text):
+    if out is not None:
+        write_whole(out, text)
+        return
+    try:
+        sys.stdout.buffer.write(text.encode("utf-8"))
+        sys.stdout.buffer.flush()
+    except BrokenPipeError:
+        # a reader that has gone away is no fault; without this Python complains once more at its end
+        os.dup2(os.open(os.devnull, os.O_WRONLY), 1)
+    except OSError as error:
+        raise Stop(NOT_DONE, f"standard output cannot be written: {error.strerror}")
+
+
+def shown(name):
+    """A file's name as text that any picture can hold."""
+    text = os.fsencode(os.path.basename(name)).decode("utf-8", "replace")
+    return "".join(c if c.isprintable() else "?" for c in text)
+
+
+def draw(name, is_tape, out):
+    if out is not None and os.path.exists(out) and os.path.exists(name) and os.path.samefile(out, name):
+        raise Stop(NOT_DONE, f"{out} is the file that is read, and would be lost")
+    data = run_tape(name) if is_tape else read_image(name)
+    number, figures = verdict(data)
+    if number == 1:
+        raise Stop(NO_POOL, f"{name} has {len(data)} bytes, and probe refuses it with 1: no multiple of 8 from 176 to 65536")
+    pool = Pool(data)
+    title = f"{shown(name)}, after its last record" if is_tape else shown(name)
+    put(out, picture(pool, title, number, figures))
+    if number != 0:
+        where = f"the first thing that does not fit is at {pool.faults[0].at}" if pool.faults else "the drawing shows no reason"
+        print(f"tools/map: probe refuses the pool with {number}: it is not sound; {where}", file=sys.stderr)
+    elif pool.faults:
+        raise Stop(NOT_DONE, f"probe accepts the pool, and the drawing shows a fault at {pool.faults[0].at}: one of them is wrong")
+
+
+def main(words):
+    is_tape = words[:1] == ["--tape"]
+    words = words[1:] if is_tape else words
+    if not 1 <= len(words) <= 2 or "" in words or any(word.startswith("--") for word in words):
+        raise Stop(NOT_DONE, USAGE)
+    draw(words[0], is_tape, words[1] if len(words) == 2 else None)
+
+
+if __name__ == "__main__":
+    try:
+        main(sys.argv[1:])
+    except Stop as stop:
+        if stop.args[0] is not None:
+            sys.exit(print(f"tools/map: {stop}", file=sys.stderr) or stop.status)
+        sys.exit(stop.status)

@@ -1,0 +1,235 @@
+"""What a drawing reads of a pool's bytes: blocks in address order, links along the bins, and what does not fit.
+
+The verdict is probe's alone. This file follows heads and links only to place them, and names each thing it could not follow, so
+that a pool that probe refuses shows where. The layout is that of crates/paper/src/layout.rt.
+"""
+
+from collections import namedtuple
+
+FREE_WORD, FALSE_WORD, START, END = 0, 8, 16, 24
+SMALL_BINS = 24  # the small bin of size z has its word at SMALL_BINS + z
+FALSE_BLOCK, BLOCKS = 96, 168
+SMALL_NEXT, PREVIOUS, NEXT, LEVEL, CHAIN = 4, 4, 8, 12, 64
+SMALL_SIZES = range(8, 72, 8)
+LARGE = 72
+LEAST_REMAINDER = 8
+
+# kind: held, small, large (both free) or remainder
+Block = namedtuple("Block", "start size kind")
+# From the word at `source` to `target`; kind: small, chain or equal; fault: None, or what is wrong.
+Link = namedtuple("Link", "source target kind fault")
+# What does not fit at an offset; breaks: no block can be followed from there.
+Fault = namedtuple("Fault", "at text breaks")
+# A bin and the starts of its blocks in the order of its links.
+Bin = namedtuple("Bin", "size starts")
+
+
+class Pool:
+    def __init__(self, data):
+        self.data, self.n = data, len(data)
+        self.blocks, self.gaps, self.links, self.faults = [], [], [], []
+        self.small_bins, self.large_bins = [], []
+        self._walk()
+        self.at = {block.start: block for block in self.blocks}
+        self._fixed_words()
+        self.binned = set()  # starts that stand in a bin
+        for size in SMALL_SIZES:
+            self._small_bin(size)
+        self._chain()
+        self._left_out()
+        self._free_word()
+        # What breaks a walk comes first; the rest keeps its order, so that a wrong link stands before the blocks that it lost.
+        self.faults.sort(key=lambda fault: not fault.breaks)
+
+    # Reading
+
+    def word(self, at, width=4):
+        return int.from_bytes(self.data[at:at + width], "little")
+
+    def distance(self, at):
+        return int.from_bytes(self.data[at:at + 4], "little", signed=True)
+
+    def fault(self, at, text, breaks=False):
+        self.faults.append(Fault(at, text, breaks))
+
+    # Blocks
+
+    def _walk(self):
+        """The three regions. Each is followed by itself, so that a broken one does not hide the others."""
+        start, end = self.word(START, 8), self.word(END, 8)
+        self.start = start if self._is_edge(start, BLOCKS, self.n - LEAST_REMAINDER) else None
+        least = (self.start or BLOCKS) + LEAST_REMAINDER
+        self.end = end if self._is_edge(end, least, self.n) else None
+        if self.start is None:
+            self.fault(START, f"R, where the remainder starts, reads {start}", True)
+        if self.end is None:
+            self.fault(END, f"E, where the remainder ends, reads {end}", True)
+        if self.start is not None:
+            self._large_region(BLOCKS, self.start)
+        self._remainder()
+        if self.end is not None:
+            self._small_region(self.end, self.n)
+
+    @staticmethod
+    def _is_edge(value, least, most):
+        return value % 8 == 0 and least <= value <= most
+
+    def _remainder(self):
+        if self.start is None or self.end is None:
+            self.gaps.append((self.start or BLOCKS, self.end or self.n))
+            return
+        size = self.end - self.start
+        self.blocks.append(Block(self.start, size, "remainder"))
+        head = self.word(self.start)
+        if head != 4 * size + 2:
+            self.fault(self.start, f"the remainder's head reads {head}, and {4 * size + 2} belongs there")
+
+    def _head(self, at, end, name):
+        """The size and flags of a block between `at` and `end`; None, and a break, where no block can be followed."""
+        head = self.word(at)
+        size = head >> 2
+        if size % 8 != 0:
+            why = "which is no multiple of 8"
+        elif (size not in SMALL_SIZES) if name == "small" else (size < LARGE):
+            why = f"which no {name} block has"
+        elif size > end - at:
+            why = f"which reaches past {end}"
+        else:
+            return size, head >> 1 & 1, head & 1
+        self.fault(at, f"the walk breaks: the head reads {head}, so the size {size}, {why}", True)
+        self.gaps.append((at, end))
+        return None
+
+    def _large_region(self, at, end):
+        below = None
+        while at < end:
+            read = self._head(at, end, "large")
+            if read is None:
+                return
+            size, flag, held = read
+            self._flag(at, flag, 0 if below == "large" else 1)
+            if not held:
+                self._free_large(at, size, below, end)
+            below = "held" if held else "large"
+            self.blocks.append(Block(at, size, below))
+            at += size
+
+    def _flag(self, at, flag, wanted):
+        if flag != wanted:
+            self.fault(at, f"the head's P is {flag}, and the block below wants {wanted}")
+
+    def _free_large(self, at, size, below, end):
+        last = self.word(at + size - 4)
+        if last != self.word(at):
+            self.fault(at + size - 4, f"the last word reads {last}, and the head {self.word(at)} belongs there")
+        if below == "large":
+            self.fault(at, "two free large blocks touch")
+        if at + size == end:
+            self.fault(at, "the block just below the remainder is free")
+
+    def _small_region(self, at, end):
+        while at < end:
+            read = self._head(at, end, "small")
+            if read is None:
+                return
+            size, flag, held = read
+            self._flag(at, flag, 1)
+            self.blocks.append(Block(at, size, "held" if held else "small"))
+            at += size
+
+    # The fixed area
+
+    def _fixed_words(self):
+        if self.word(FALSE_WORD, 8) != FALSE_BLOCK:
+            self.fault(FALSE_WORD, f"reads {self.word(FALSE_WORD, 8)}, and {FALSE_BLOCK} belongs there")
+        for at in range(FALSE_BLOCK, BLOCKS, 4):
+            wanted = 1 if at == FALSE_BLOCK + LEVEL else 0
+            if at != FALSE_BLOCK + CHAIN and self.word(at) != wanted:
+                self.fault(at, f"the false block reads {self.word(at)}, and {wanted} belongs there")
+
+    def _free_word(self):
+        if self.gaps:
+            return  # the sum is not known
+        total = sum(block.size for block in self.blocks if block.kind != "held") - 4
+        if self.word(FREE_WORD, 8) != total:
+            self.fault(FREE_WORD, f"the free word reads {self.word(FREE_WORD, 8)}, and the free sizes less 4 are {total}")
+
+    # Bins
+
+    def _follow(self, source, target, kind, size):
+        """The link that the word at `source` is; True where it leads to a free block that is in no bin yet and has the right size."""
+        block = self.at.get(target)
+        free = "small" if kind == "small" else "large"
+        if not 0 <= target < self.n:
+            wrong = f"leads to {target}, outside the pool"
+        elif block is None or block.kind != free:
+            wrong = f"leads to {target}, where no free {free} block starts"
+        elif target in self.binned:
+            wrong = f"leads to {target}, which is in a bin already"
+        elif kind == "chain" and block.size <= size:
+            wrong = f"leads to {target} of size {block.size}, and the chain rises above {size}"
+        elif kind != "chain" and block.size != size:
+            wrong = f"leads to {target} of size {block.size}, in the bin of {size}"
+        else:
+            wrong = None
+        self.links.append(Link(source, target, kind, wrong))
+        if wrong is not None:
+            self.fault(source, f"the link {wrong}")
+            return False
+        self.binned.add(target)
+        return True
+
+    def _small_bin(self, size):
+        starts, source = [], SMALL_BINS + size
+        target = self.word(source, 8)
+        while target != 0 and self._follow(source, target, "small", size):
+            starts.append(target)
+            source = target + SMALL_NEXT
+            target = self.word(source)
+        if starts:
+            self.small_bins.append(Bin(size, starts))
+
+    def _chain(self):
+        source, size = FALSE_BLOCK, 0
+        while self.distance(source + CHAIN) != 0:
+            target = source + self.distance(source + CHAIN)
+            if not self._follow(source + CHAIN, target, "chain", size):
+                return
+            source, size = target, self.at[target].size
+            self._large_bin(source, size)
+
+    def _large_bin(self, first, size):
+        if self.word(first + LEVEL) != 1:
+            self.fault(first + LEVEL, f"the level word reads {self.word(first + LEVEL)}, and 1 belongs there")
+        self._previous(first, None)
+        starts, source = [first], first
+        while self.distance(source + NEXT) != 0:
+            target = source + self.distance(source + NEXT)
+            if not self._follow(source + NEXT, target, "equal", size):
+                break
+            self._previous(target, source)
+            starts.append(target)
+            source = target
+        self.large_bins.append(Bin(size, starts))
+
+    def _previous(self, at, wanted):
+        """The link back; it is drawn only where it is wrong, since it runs along the link that led here."""
+        distance = self.distance(at + PREVIOUS)
+        if distance == (0 if wanted is None else wanted - at):
+            return
+        belongs = "nowhere" if wanted is None else f"to {wanted}"
+        leads = f"leads to {at + distance}" if distance != 0 else "leads nowhere"
+        wrong = f"{leads}, and {belongs} is right"
+        self.fault(at + PREVIOUS, f"the link back {wrong}")
+        if distance != 0:
+            self.links.append(Link(at + PREVIOUS, at + distance, "equal", wrong))
+
+    def _left_out(self):
+        """Free blocks that no bin has, one fault a size: a broken link loses all that is behind it."""
+        lost = {}
+        for block in self.blocks:
+            if block.kind in ("small", "large") and block.start not in self.binned:
+                lost.setdefault(block.size, []).append(block.start)
+        for size, starts in lost.items():
+            many = f"the first of {len(starts)} free blocks" if len(starts) > 1 else "a free block"
+            self.fault(starts[0], f"{many} of {size} that the bin does not have")
