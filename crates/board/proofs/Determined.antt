@@ -1,0 +1,23 @@
+-- The statement of each call determines its outcome: two that it allows have the same number and leave the same bytes.
+use mathlib.Core.Path.{_≡_, ap, sym, _∙_}
+use mathlib.Core.List.{List}
+use Prim.Native.Nat.{ℕ, _/_, _%_}
+use native.Mathlib.Omega.{arith}
+use Rattle.board.specs.Heard.{Halves, halves, Left, left}
+
+-- a number is its two halves
+pub same-number : (r r' : ℕ) → halves r ≡ halves r' → r ≡ r'
+same-number r r' e =
+    let u : r / 4294967296 ≡ r' / 4294967296 = ap (λ (h : Halves). h .upper) e in
+    let l : r % 4294967296 ≡ r' % 4294967296 = ap (λ (h : Halves). h .lower) e in
+    omega arith
+
+-- of pool_inspect and pool_ask
+pub answer-determined : (h : Halves) (r r' : ℕ) → h ≡ halves r → h ≡ halves r' → r ≡ r'
+answer-determined h r r' e f = same-number r r' (sym e ∙ f)
+
+-- of the other five
+pub outcome-determined : (o : Left) (r r' : ℕ) (a a' : List ℕ) → o ≡ left (halves r) a → o ≡ left (halves r') a' → (r ≡ r') × (a ≡ a')
+outcome-determined o r r' a a' e f =
+    let g : left (halves r) a ≡ left (halves r') a' = sym e ∙ f in
+    (same-number r r' (ap (λ (x : Left). x .hears) g), ap (λ (x : Left). x .after) g)

@@ -1,0 +1,3 @@
+pub mod Told
+pub mod Seven
+pub mod Determined

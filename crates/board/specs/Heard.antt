@@ -1,0 +1,57 @@
+-- What C hears of a call: one number of 64 bits, with the refusal's number in its upper half and the value in its lower half; and what is left
+-- in the lent buffer or list. The calls' meaning is the pool's own (crate pool, specs/Calls); only the list of seven figures is added here.
+use mathlib.Core.List.{List, [], _∷_}
+use Prim.Native.Nat.{ℕ, _/_, _%_}
+use lib.ListN.{length}
+use Rattle.words.specs.Choice.{if=}
+use Rattle.paper.specs.declared.Answer.{Answer}
+use Rattle.paper.specs.declared.Answer.the-variants.{Done, Refused}
+use Rattle.paper.specs.declared.Figures.{Figures}
+use Rattle.paper.specs.declared.Tally.{Tally}
+use Rattle.paper.specs.declared.Tally.the-variants.{Counted, Refused as Uncounted}
+use Rattle.paper.specs.Answers.{Out, out, number, value, not-53}
+use Rattle.pool.specs.Calls.{figures as tallyOf}
+
+-- ---- one number
+
+pub record Halves : Type 0 where
+  pub upper : ℕ
+  pub lower : ℕ
+
+-- the two halves of a number of 64 bits
+abbrev pub halves : ℕ → Halves
+halves r = record { upper = r / 4294967296; lower = r % 4294967296 }
+
+-- "A refusal returns 0 beside its number."
+abbrev pub heard : Answer → Halves
+heard a = record { upper = number a; lower = value a }
+
+-- ---- and what is left
+
+pub record Left : Type 0 where
+  pub hears : Halves
+  pub after : List ℕ
+
+abbrev pub left : Halves → List ℕ → Left
+left h s = record { hears = h; after = s }
+
+abbrev pub leaves : Out → Left
+leaves o = left (heard (o .answer)) (o .after)
+
+-- ---- the figures in a list
+
+-- "Held blocks; held bytes (block sizes); free small blocks; free large blocks; remainder size; free word; largest grant."
+abbrev pub seven : Figures → List ℕ
+seven f =
+    f .«held_blocks» ∷ f .«held_bytes» ∷ f .«free_small» ∷ f .«free_large» ∷ f .remainder ∷ f .«free_word» ∷ f .largest ∷ []
+
+-- a list of another length is refused as the class count refuses one that has not 53 counters
+unfoldable pub counted : Figures → List ℕ → Out
+counted f xs = if= (length xs) 7 (out (Done (f .«held_blocks»)) (seven f)) (out (Refused not-53) xs)
+
+abbrev pub tallied : Tally → List ℕ → Out
+tallied (Counted f) xs = counted f xs
+tallied (Uncounted k) xs = out (Refused k) xs
+
+unfoldable pub figures : List ℕ → List ℕ → Out
+figures bs xs = tallied (tallyOf bs) xs

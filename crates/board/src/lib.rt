@@ -1,0 +1,65 @@
+// The public calls for C: crate pool's own, each of which answers one number of 64 bits, with the refusal's number in its upper
+// half and the value in its lower half. A slice is a pointer and a length in C (include/pool.h). None has a precondition, and
+// each contract is an equation with the pool's definition of the call.
+mod fill;
+mod halves;
+
+ghost use mathlib.Core.Path.{_≡_};
+ghost use Rattle.pool.specs.Calls.{layOut, inspect, take, giveBack, ask, classCount};
+ghost use Rattle.board.specs.Heard.{halves, heard, left, leaves, figures as figures-of};
+
+// Lays the buffer out as a fresh pool; answers its length.
+#[no_mangle]
+pub extern "C" fn pool_lay_out(pool: &mut [u8]) -> u64
+    ensures { λ r. ⌜ leaves (layOut (now (pool .entry))) ≡ left (halves r) (now (pool .exit)) ⌝ }
+{
+    halves::of(pool::lay_out(pool))
+}
+
+// Whether the pool is sound; answers its length.
+#[no_mangle]
+pub extern "C" fn pool_inspect(pool: &[u8]) -> u64
+    ensures { λ r. ⌜ heard (inspect (now (pool .entry))) ≡ halves r ⌝ }
+{
+    halves::of(pool::inspect(pool))
+}
+
+// Grants a block for a payload of `size` bytes; answers where the payload starts.
+#[no_mangle]
+pub extern "C" fn pool_take(pool: &mut [u8], size: u32) -> u64
+    ensures { λ r. ⌜ leaves (take (now (pool .entry)) size) ≡ left (halves r) (now (pool .exit)) ⌝ }
+{
+    halves::of(pool::take(pool, size))
+}
+
+// Takes the block of the payload at `offset` back; answers the payload's bytes.
+#[no_mangle]
+pub extern "C" fn pool_give_back(pool: &mut [u8], offset: u32) -> u64
+    ensures { λ r. ⌜ leaves (giveBack (now (pool .entry)) offset) ≡ left (halves r) (now (pool .exit)) ⌝ }
+{
+    halves::of(pool::give_back(pool, offset))
+}
+
+// The bytes of the payload at `offset`.
+#[no_mangle]
+pub extern "C" fn pool_ask(pool: &[u8], offset: u32) -> u64
+    ensures { λ r. ⌜ heard (ask (now (pool .entry)) offset) ≡ halves r ⌝ }
+{
+    halves::of(pool::ask(pool, offset))
+}
+
+// Fills the list with the seven figures; answers the first, how many blocks are held.
+#[no_mangle]
+pub extern "C" fn pool_figures(pool: &[u8], figures: &mut [u32]) -> u64
+    ensures { λ r. ⌜ leaves (figures-of (now (pool .entry)) (now (figures .entry))) ≡ left (halves r) (now (figures .exit)) ⌝ }
+{
+    halves::of(fill::tallied(pool::figures(pool), figures))
+}
+
+// Fills the 53 counters with the held blocks by size class; answers how many are held.
+#[no_mangle]
+pub extern "C" fn pool_class_count(pool: &[u8], counts: &mut [u32]) -> u64
+    ensures { λ r. ⌜ leaves (classCount (now (pool .entry)) (now (counts .entry))) ≡ left (halves r) (now (counts .exit)) ⌝ }
+{
+    halves::of(pool::class_count(pool, counts))
+}

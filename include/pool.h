@@ -1,0 +1,110 @@
+/* A memory pool for records that must not be lost, in a buffer of yours. Every call is proved to answer as written here, whatever
+   bytes the buffer has (docs/PROMISES.md). Build the library with `rt staticlib board`, and link target/staticlib/libboard.a.
+
+       static unsigned char pool[1024];
+       uint64_t r = pool_lay_out(pool, sizeof pool);
+       r = pool_take(pool, sizeof pool, 100);
+       if (pool_refusal(r) == POOL_NO_ROOM) return;
+       unsigned char *record = pool + pool_value(r);
+       memset(record, 'x', 100);
+       r = pool_give_back(pool, sizeof pool, pool_value(r));
+       r = pool_give_back(pool, sizeof pool, (uint32_t)(record - pool));
+       if (pool_refusal(r) == POOL_NOT_HELD) puts("it was given back already");
+
+   The bytes of a pool of n bytes; words are little-endian, of 8 bytes in the header and of 4 elsewhere:
+
+       0      free word: all free sizes, less 4
+       8      96
+       16     R, where the remainder starts
+       24     E, where it ends
+       32     first block of the small bin 8, or 0; then those of 16, 24, .. 64
+       96     the false block: 0, but for its level word (+12) and its chain word (+64)
+       168    large blocks (72 bytes and more), end to end, held or free
+       R      the remainder, free
+       E      small blocks (8 to 64 bytes), end to end, held or free
+       n
+
+   A block is a head of 4 bytes, then its payload; its size, head included, is a multiple of 8. An offset counts from the
+   pool's first byte and means the payload. So a payload starts 4 bytes past a multiple of 8: in a pool that is aligned to 8 it
+   is aligned to 4, and never to 8.
+
+   What you owe, since C cannot check it:
+   - `pool` points to n bytes of one object. pool_lay_out, pool_take and pool_give_back write them, the others only read.
+     They have been written before (any value will do), and `pool` needs no alignment.
+   - `figures` and `counts` point to `count` numbers that you may write, that have been written before, and that share no byte
+     with the pool.
+   - Nobody else writes these bytes during the call; while a call writes, nobody else reads them.
+   - Of an empty pool or list (n = 0, count = 0) nothing is read or written, and any pointer will do, NULL too.
+   No other rule: any n, count, size, offset and bytes get an answer. Between calls the pool's bytes are yours, too. To write
+   outside the payloads that you hold is to write into the pool's books; the next call says POOL_NOT_SOUND, unless what stands
+   there is a sound pool by chance.
+
+   There is no pool_lend: after `r = pool_ask(pool, n, offset)` is done, the payload is the pool_value(r) bytes at pool + offset. */
+#ifndef POOL_H
+#define POOL_H
+
+#include <stddef.h>
+#include <stdint.h>
+
+#ifdef __cplusplus
+extern "C" {
+#endif
+
+/* The refusals' numbers, and 0. They are asked in this order. A refusal changes no byte of the pool and of the list. */
+enum {
+    POOL_DONE = 0,
+    POOL_NOT_ALLOWED = 1, /* n is not a multiple of 8 from 176 to 65,536 */
+    POOL_NOT_SOUND = 2,   /* the bytes are no pool that honest calls made */
+    POOL_SIZE_ZERO = 3,   /* the size is 0 */
+    POOL_NO_ROOM = 4,     /* no room by the grant rule */
+    POOL_NOT_HELD = 5,    /* the offset is not the start of a held payload */
+    POOL_WRONG_COUNT = 6  /* the list has not 7 figures, or not 53 counters */
+};
+
+/* Every call returns one number: the refusal in its upper 32 bits, the value in its lower 32 bits. Done, the refusal is 0; refused, the
+   value is 0. */
+static inline uint32_t pool_refusal(uint64_t result) { return (uint32_t)(result >> 32); }
+static inline uint32_t pool_value(uint64_t result) { return (uint32_t)(result & 0xFFFFFFFFu); }
+
+/* Lays the buffer out as a fresh pool, whatever stands there. Value: n. Refused: 1. */
+uint64_t pool_lay_out(unsigned char *pool, size_t n);
+
+/* Whether the pool is sound. Value: n. Refused: 1, 2. */
+uint64_t pool_inspect(const unsigned char *pool, size_t n);
+
+/* Grants a payload of at least `size` bytes; they are not cleared. Value: its offset. Refused: 1, 2, 3, 4. */
+uint64_t pool_take(unsigned char *pool, size_t n, uint32_t size);
+
+/* Takes the payload at `offset` back. Value: how many bytes it had. Refused: 1, 2, 5. */
+uint64_t pool_give_back(unsigned char *pool, size_t n, uint32_t offset);
+
+/* Asks about the payload at `offset`. Value: how many bytes it has. Refused: 1, 2, 5. */
+uint64_t pool_ask(const unsigned char *pool, size_t n, uint32_t offset);
+
+/* The figures' places in the list. */
+enum {
+    POOL_HELD_BLOCKS = 0,
+    POOL_HELD_BYTES = 1, /* block sizes, heads included */
+    POOL_FREE_SMALL = 2, /* free small blocks */
+    POOL_FREE_LARGE = 3, /* free large blocks */
+    POOL_REMAINDER = 4,  /* the remainder's size */
+    POOL_FREE_WORD = 5,  /* all free sizes, less 4: held bytes + free word + 172 = n */
+    POOL_LARGEST = 6,    /* the greatest free block's size, less 4 */
+    POOL_FIGURES = 7     /* how many figures there are */
+};
+
+/* Fills the list of 7 figures. Value: how many blocks are held. Refused: 1, 2, 6. */
+uint64_t pool_figures(const unsigned char *pool, size_t n, uint32_t *figures, size_t count);
+
+/* How many size classes there are: class k has size (4 + k % 4) << (k / 4 + 1), which is 8, 10, 12, 14, 16, 20, .. 65,536. */
+enum { POOL_CLASSES = 53 };
+
+/* Fills the list of 53 counters: each held block counts in the least class whose size is at least its payload.
+   Value: how many blocks are held. Refused: 1, 2, 6. */
+uint64_t pool_class_count(const unsigned char *pool, size_t n, uint32_t *counts, size_t count);
+
+#ifdef __cplusplus
+}
+#endif
+
+#endif

@@ -1,0 +1,20 @@
+// Where the proved library stands: target/staticlib of this repository, or the folder that ICEWIMPLE_LIBRARY names.
+// The archive is for x86-64. On another machine nothing is linked: `cargo check` does without it.
+use std::env;
+use std::path::PathBuf;
+
+fn main() {
+    let folder = match env::var_os("ICEWIMPLE_LIBRARY") {
+        Some(named) => PathBuf::from(named),
+        None => {
+            PathBuf::from(env::var_os("CARGO_MANIFEST_DIR").expect("cargo says where the crate is"))
+                .join("../target/staticlib")
+        }
+    };
+    println!("cargo:rerun-if-env-changed=ICEWIMPLE_LIBRARY");
+    println!("cargo:rerun-if-changed={}", folder.join("libboard.a").display());
+    if env::var("CARGO_CFG_TARGET_ARCH").as_deref() == Ok("x86_64") {
+        println!("cargo:rustc-link-search=native={}", folder.display());
+        println!("cargo:rustc-link-lib=static=board");
+    }
+}

@@ -1,0 +1,179 @@
+//! A memory pool for records that must not be lost, in a buffer that you lend: a safe wrapper over the proved calls of the crate `board`.
+//!
+//! ```
+//! use icewimple_pool::{Pool, Refusal};
+//!
+//! let mut buffer = [0; 1024];
+//! let mut pool = Pool::lay_out(&mut buffer)?;
+//! let offset = pool.take(100)?;
+//! pool.lend_mut(offset)?.fill(b'x');
+//! pool.give_back(offset)?;
+//! assert_eq!(pool.give_back(offset), Err(Refusal::NotHeld));
+//! # Ok::<(), Refusal>(())
+//! ```
+//!
+//! Every call reads the pool's bytes first, and a refusal changes none of them. What each answers is proved of the library
+//! (`docs/PROMISES.md`); here it is only passed on. An answer that the library's contract rules out is not believed: it comes back
+//! as [`Refusal::Unforeseen`], and nothing panics.
+#![deny(unsafe_code, unsafe_op_in_unsafe_fn, missing_docs)]
+
+#[allow(unsafe_code)]
+mod raw;
+mod refusal;
+
+pub use refusal::Refusal;
+use refusal::{answer, within};
+use std::fmt;
+
+/// How many size classes there are.
+pub const CLASSES: usize = 53;
+
+/// The seven figures of a pool. Held bytes + free word + 172 is the pool's length.
+#[derive(Clone, Copy, Debug, PartialEq, Eq)]
+pub struct Figures {
+    /// How many blocks are held.
+    pub held_blocks: u32,
+    /// Their sizes together, heads included.
+    pub held_bytes: u32,
+    /// How many small blocks are free.
+    pub free_small: u32,
+    /// How many large blocks are free.
+    pub free_large: u32,
+    /// The remainder's size.
+    pub remainder: u32,
+    /// All free sizes, less 4.
+    pub free_word: u32,
+    /// The greatest free block's size, less 4.
+    pub largest: u32,
+}
+
+/// A pool in a lent buffer.
+pub struct Pool<'a> {
+    bytes: &'a mut [u8],
+}
+
+impl<'a> Pool<'a> {
+    /// Lays the buffer out as a fresh pool, whatever stands there.
+    /// Refused: [`NotAllowed`](Refusal::NotAllowed).
+    pub fn lay_out(bytes: &'a mut [u8]) -> Result<Pool<'a>, Refusal> {
+        let result = raw::lay_out(bytes);
+        same_length(answer(result, &[Refusal::NotAllowed])?, bytes.len(), result)?;
+        Ok(Pool { bytes })
+    }
+
+    /// The pool that the buffer has, if it is sound.
+    /// Refused: [`NotAllowed`](Refusal::NotAllowed), [`NotSound`](Refusal::NotSound).
+    pub fn open(bytes: &'a mut [u8]) -> Result<Pool<'a>, Refusal> {
+        inspect(bytes)?;
+        Ok(Pool { bytes })
+    }
+
+    /// The pool's bytes.
+    pub fn bytes(&self) -> &[u8] {
+        self.bytes
+    }
+
+    /// The lent buffer, back. [`Pool::open`] takes it again.
+    pub fn into_bytes(self) -> &'a mut [u8] {
+        self.bytes
+    }
+
+    /// Grants a payload of at least `size` bytes, which are not cleared; answers its offset.
+    /// Refused: [`SizeZero`](Refusal::SizeZero), [`NoRoom`](Refusal::NoRoom).
+    pub fn take(&mut self, size: u32) -> Result<u32, Refusal> {
+        let result = raw::take(self.bytes, size);
+        let offset = answer(
+            result,
+            &[Refusal::NotAllowed, Refusal::NotSound, Refusal::SizeZero, Refusal::NoRoom],
+        )?;
+        within(self.bytes.len(), offset, size, result)?;
+        Ok(offset)
+    }
+
+    /// Takes the payload at `offset` back; answers how many bytes it had.
+    /// Refused: [`NotHeld`](Refusal::NotHeld).
+    pub fn give_back(&mut self, offset: u32) -> Result<u32, Refusal> {
+        let result = raw::give_back(self.bytes, offset);
+        let size = answer(result, &[Refusal::NotAllowed, Refusal::NotSound, Refusal::NotHeld])?;
+        within(self.bytes.len(), offset, size, result)?;
+        Ok(size)
+    }
+
+    /// How many bytes the payload at `offset` has.
+    /// Refused: [`NotHeld`](Refusal::NotHeld).
+    pub fn ask(&self, offset: u32) -> Result<u32, Refusal> {
+        let result = raw::ask(self.bytes, offset);
+        let size = answer(result, &[Refusal::NotAllowed, Refusal::NotSound, Refusal::NotHeld])?;
+        within(self.bytes.len(), offset, size, result)?;
+        Ok(size)
+    }
+
+    /// The payload at `offset`, for reading.
+    /// Refused: [`NotHeld`](Refusal::NotHeld).
+    pub fn lend(&self, offset: u32) -> Result<&[u8], Refusal> {
+        let (start, size) = (offset as usize, self.ask(offset)? as usize);
+        // `ask` has seen that the payload is within the pool
+        Ok(&self.bytes[start..start + size])
+    }
+
+    /// The payload at `offset`, for writing. Whatever is written there, the pool stays sound.
+    /// Refused: [`NotHeld`](Refusal::NotHeld).
+    pub fn lend_mut(&mut self, offset: u32) -> Result<&mut [u8], Refusal> {
+        let (start, size) = (offset as usize, self.ask(offset)? as usize);
+        // `ask` has seen that the payload is within the pool
+        Ok(&mut self.bytes[start..start + size])
+    }
+
+    /// Whether the pool is sound, once more. Nobody but the pool writes outside its payloads while the buffer is lent, so this is refused
+    /// only where the memory itself fails.
+    pub fn inspect(&self) -> Result<(), Refusal> {
+        inspect(self.bytes)
+    }
+
+    /// The seven figures.
+    pub fn figures(&self) -> Result<Figures, Refusal> {
+        let mut list = [0; 7];
+        let result = raw::figures(self.bytes, &mut list);
+        let held = answer(result, &[Refusal::NotAllowed, Refusal::NotSound])?;
+        let [held_blocks, held_bytes, free_small, free_large, remainder, free_word, largest] = list;
+        if held != held_blocks {
+            return Err(Refusal::Unforeseen(result));
+        }
+        Ok(Figures {
+            held_blocks,
+            held_bytes,
+            free_small,
+            free_large,
+            remainder,
+            free_word,
+            largest,
+        })
+    }
+
+    /// How many held blocks there are of each size class: a block counts in the least class whose size is at least its payload.
+    pub fn class_count(&self) -> Result<[u32; CLASSES], Refusal> {
+        let mut counts = [0; CLASSES];
+        let result = raw::class_count(self.bytes, &mut counts);
+        answer(result, &[Refusal::NotAllowed, Refusal::NotSound])?;
+        Ok(counts)
+    }
+}
+
+impl fmt::Debug for Pool<'_> {
+    fn fmt(&self, f: &mut fmt::Formatter) -> fmt::Result {
+        f.debug_struct("Pool").field("n", &self.bytes.len()).finish()
+    }
+}
+
+fn inspect(bytes: &[u8]) -> Result<(), Refusal> {
+    let result = raw::inspect(bytes);
+    same_length(answer(result, &[Refusal::NotAllowed, Refusal::NotSound])?, bytes.len(), result)
+}
+
+fn same_length(value: u32, n: usize, result: u64) -> Result<(), Refusal> {
+    if value as usize == n {
+        Ok(())
+    } else {
+        Err(Refusal::Unforeseen(result))
+    }
+}

@@ -1,0 +1,52 @@
+//! The calls of `include/pool.h`, with slices for pointers and lengths. All that is unsafe stands here.
+
+mod c {
+    extern "C" {
+        pub fn pool_lay_out(pool: *mut u8, n: usize) -> u64;
+        pub fn pool_inspect(pool: *const u8, n: usize) -> u64;
+        pub fn pool_take(pool: *mut u8, n: usize, size: u32) -> u64;
+        pub fn pool_give_back(pool: *mut u8, n: usize, offset: u32) -> u64;
+        pub fn pool_ask(pool: *const u8, n: usize, offset: u32) -> u64;
+        pub fn pool_figures(pool: *const u8, n: usize, figures: *mut u32, count: usize) -> u64;
+        pub fn pool_class_count(pool: *const u8, n: usize, counts: *mut u32, count: usize) -> u64;
+    }
+}
+
+// One reason for all seven. The header asks for n readable (or writable) bytes that nobody else writes (or uses) during the call, and
+// that share no byte with the list: a `&[u8]` (a `&mut [u8]`) is that, and a `&mut [u32]` is apart from it. An empty slice may
+// dangle. The calls keep no pointer, and answer for every n, number and bytes.
+
+pub fn lay_out(pool: &mut [u8]) -> u64 {
+    // SAFETY: pointer and length are those of one exclusive slice.
+    unsafe { c::pool_lay_out(pool.as_mut_ptr(), pool.len()) }
+}
+
+pub fn inspect(pool: &[u8]) -> u64 {
+    // SAFETY: pointer and length are those of one shared slice, which the call only reads.
+    unsafe { c::pool_inspect(pool.as_ptr(), pool.len()) }
+}
+
+pub fn take(pool: &mut [u8], size: u32) -> u64 {
+    // SAFETY: pointer and length are those of one exclusive slice.
+    unsafe { c::pool_take(pool.as_mut_ptr(), pool.len(), size) }
+}
+
+pub fn give_back(pool: &mut [u8], offset: u32) -> u64 {
+    // SAFETY: pointer and length are those of one exclusive slice.
+    unsafe { c::pool_give_back(pool.as_mut_ptr(), pool.len(), offset) }
+}
+
+pub fn ask(pool: &[u8], offset: u32) -> u64 {
+    // SAFETY: pointer and length are those of one shared slice, which the call only reads.
+    unsafe { c::pool_ask(pool.as_ptr(), pool.len(), offset) }
+}
+
+pub fn figures(pool: &[u8], figures: &mut [u32]) -> u64 {
+    // SAFETY: each pointer and length are those of one slice; the pool is only read, and the list is exclusive, so they are apart.
+    unsafe { c::pool_figures(pool.as_ptr(), pool.len(), figures.as_mut_ptr(), figures.len()) }
+}
+
+pub fn class_count(pool: &[u8], counts: &mut [u32]) -> u64 {
+    // SAFETY: each pointer and length are those of one slice; the pool is only read, and the list is exclusive, so they are apart.
+    unsafe { c::pool_class_count(pool.as_ptr(), pool.len(), counts.as_mut_ptr(), counts.len()) }
+}

@@ -1,0 +1,123 @@
+//! The refusals, and what is believed of the library's answers.
+
+use std::error::Error;
+use std::fmt;
+
+/// Why a call was refused. The paper's number 6, a list of another length, cannot be met here: the lists are arrays.
+#[derive(Clone, Copy, Debug, PartialEq, Eq)]
+pub enum Refusal {
+    /// 1: the length is not a multiple of 8 from 176 to 65,536.
+    NotAllowed,
+    /// 2: the pool is not sound.
+    NotSound,
+    /// 3: the size is 0.
+    SizeZero,
+    /// 4: no room by the grant rule.
+    NoRoom,
+    /// 5: the offset is not the start of a held payload.
+    NotHeld,
+    /// The library answered what its contract rules out, so it is not the proved one. The answer as it came.
+    Unforeseen(u64),
+}
+
+impl Refusal {
+    /// The paper's number of the refusal; an unforeseen answer has none.
+    pub fn number(self) -> Option<u32> {
+        match self {
+            Refusal::NotAllowed => Some(1),
+            Refusal::NotSound => Some(2),
+            Refusal::SizeZero => Some(3),
+            Refusal::NoRoom => Some(4),
+            Refusal::NotHeld => Some(5),
+            Refusal::Unforeseen(_) => None,
+        }
+    }
+}
+
+impl fmt::Display for Refusal {
+    fn fmt(&self, f: &mut fmt::Formatter) -> fmt::Result {
+        match self {
+            Refusal::NotAllowed => {
+                write!(f, "the length is not a multiple of 8 from 176 to 65,536")
+            }
+            Refusal::NotSound => write!(f, "the pool is not sound"),
+            Refusal::SizeZero => write!(f, "the size is 0"),
+            Refusal::NoRoom => write!(f, "no room by the grant rule"),
+            Refusal::NotHeld => write!(f, "the offset is not the start of a held payload"),
+            Refusal::Unforeseen(result) => {
+                write!(f, "the library answered {result:#x}, which its contract rules out")
+            }
+        }
+    }
+}
+
+impl Error for Refusal {}
+
+/// The value of a call that is done, or the refusal, where it is one that the call may give.
+pub(crate) fn answer(result: u64, may: &[Refusal]) -> Result<u32, Refusal> {
+    let (number, value) = ((result >> 32) as u32, result as u32);
+    if number == 0 {
+        return Ok(value);
+    }
+    match may.iter().find(|refusal| refusal.number() == Some(number)) {
+        Some(refusal) if value == 0 => Err(*refusal),
+        _ => Err(Refusal::Unforeseen(result)),
+    }
+}
+
+/// A payload of a sound pool of n bytes lies within it, past the header.
+pub(crate) fn within(n: usize, offset: u32, size: u32, result: u64) -> Result<(), Refusal> {
+    match (offset as usize).checked_add(size as usize) {
+        Some(end) if 168 < offset && end <= n => Ok(()),
+        _ => Err(Refusal::Unforeseen(result)),
+    }
+}
+
+#[cfg(test)]
+mod tests {
+    use super::*;
+
+    const MAY: [Refusal; 2] = [Refusal::NotAllowed, Refusal::NotHeld];
+
+    #[test]
+    fn an_answer_is_a_value_or_a_refusal_that_the_call_may_give() {
+        assert_eq!(answer(0, &MAY), Ok(0));
+        assert_eq!(answer(0xFFFF_FFFF, &MAY), Ok(0xFFFF_FFFF));
+        assert_eq!(answer(1 << 32, &MAY), Err(Refusal::NotAllowed));
+        assert_eq!(answer(5 << 32, &MAY), Err(Refusal::NotHeld));
+    }
+
+    #[test]
+    fn any_other_answer_is_unforeseen() {
+        for result in [2 << 32, 6 << 32, 7 << 32, 1 << 63, (5 << 32) + 1, u64::MAX] {
+            assert_eq!(answer(result, &MAY), Err(Refusal::Unforeseen(result)));
+        }
+    }
+
+    #[test]
+    fn a_payload_outside_the_pool_is_unforeseen() {
+        assert_eq!(within(1024, 172, 852, 9), Ok(()));
+        for (offset, size) in [(172, 853), (168, 4), (0, 4), (1024, 1), (u32::MAX, u32::MAX)] {
+            assert_eq!(within(1024, offset, size, 9), Err(Refusal::Unforeseen(9)));
+        }
+    }
+
+    #[test]
+    fn refusals_say_their_number_and_why() {
+        let numbers = [
+            Refusal::NotAllowed,
+            Refusal::NotSound,
+            Refusal::SizeZero,
+            Refusal::NoRoom,
+            Refusal::NotHeld,
+        ]
+        .map(|r| r.number());
+        assert_eq!(numbers, [Some(1), Some(2), Some(3), Some(4), Some(5)]);
+        assert_eq!(Refusal::Unforeseen(7 << 32).number(), None);
+        assert_eq!(Refusal::NotHeld.to_string(), "the offset is not the start of a held payload");
+        assert_eq!(
+            Refusal::Unforeseen(16).to_string(),
+            "the library answered 0x10, which its contract rules out"
+        );
+    }
+}

@@ -1,0 +1,167 @@
+//! The wrapper over the proved library: the paper's worked tape, every refusal, and a long random run held against a plain list.
+use icewimple_pool::{Figures, Pool, Refusal, CLASSES};
+
+/// The least class whose size is at least the payload.
+fn class_of(payload: u32) -> usize {
+    (0..CLASSES)
+        .find(|k| payload <= (4 + *k as u32 % 4) << (k / 4 + 1))
+        .expect("a payload fits a class")
+}
+
+/// 1,024 bytes after the worked tape, up to its figures.
+fn worked(buffer: &mut [u8]) -> Pool<'_> {
+    let mut pool = Pool::lay_out(buffer).unwrap();
+    assert_eq!(pool.take(10), Ok(1012));
+    assert_eq!(pool.take(100), Ok(172));
+    assert_eq!(pool.take(61), Ok(276));
+    assert_eq!(pool.take(200), Ok(348));
+    assert_eq!(pool.give_back(172), Ok(100));
+    assert_eq!(pool.take(32), Ok(972));
+    assert_eq!(pool.take(72), Ok(556));
+    assert_eq!(pool.give_back(172), Err(Refusal::NotHeld));
+    assert_eq!(pool.give_back(276), Ok(68));
+    assert_eq!(pool.take(100), Ok(172));
+    assert_eq!(pool.give_back(556), Ok(76));
+    pool
+}
+
+#[test]
+fn the_worked_tape() {
+    let mut buffer = [0; 1024];
+    let pool = worked(&mut buffer);
+    let figures = Figures {
+        held_blocks: 4,
+        held_bytes: 368,
+        free_small: 0,
+        free_large: 1,
+        remainder: 416,
+        free_word: 484,
+        largest: 412,
+    };
+    assert_eq!(pool.figures(), Ok(figures));
+    let mut counts = [0; CLASSES];
+    for (offset, payload) in [(172, 100), (348, 204), (972, 36), (1012, 12)] {
+        assert_eq!(pool.ask(offset), Ok(payload));
+        assert_eq!(pool.lend(offset).unwrap().len(), payload as usize);
+        counts[class_of(payload)] += 1;
+    }
+    assert_eq!(pool.class_count(), Ok(counts));
+    assert_eq!(pool.inspect(), Ok(()));
+}
+
+#[test]
+fn lengths_on_both_sides_of_the_edge() {
+    for n in [0, 8, 168, 175, 177, 65_535, 65_544] {
+        let mut buffer = vec![7; n];
+        assert_eq!(Pool::lay_out(&mut buffer).unwrap_err(), Refusal::NotAllowed, "{n}");
+        assert_eq!(Pool::open(&mut buffer).unwrap_err(), Refusal::NotAllowed, "{n}");
+        assert_eq!(buffer, vec![7; n]);
+    }
+    for n in [176, 184, 65_536] {
+        let mut buffer = vec![7; n];
+        let pool = Pool::lay_out(&mut buffer).unwrap();
+        assert_eq!(pool.figures().unwrap().free_word as usize, n - 172);
+        assert_eq!(pool.bytes().len(), n);
+    }
+}
+
+#[test]
+fn an_empty_slice_is_refused_wherever_it_points() {
+    assert_eq!(Pool::lay_out(&mut []).unwrap_err(), Refusal::NotAllowed);
+    assert_eq!(Pool::open(&mut []).unwrap_err(), Refusal::NotAllowed);
+    let mut buffer = [7; 8];
+    assert_eq!(Pool::open(&mut buffer[8..]).unwrap_err(), Refusal::NotAllowed);
+}
+
+#[test]
+fn a_pool_that_is_not_sound_is_not_opened() {
+    let mut buffer = [0; 1024];
+    assert_eq!(Pool::open(&mut buffer).unwrap_err(), Refusal::NotSound);
+    worked(&mut buffer);
+    assert!(Pool::open(&mut buffer).is_ok());
+    buffer[0] ^= 1;
+    assert_eq!(Pool::open(&mut buffer).unwrap_err(), Refusal::NotSound);
+}
+
+#[test]
+fn a_refusal_changes_no_byte() {
+    let mut buffer = [0; 1024];
+    let mut pool = worked(&mut buffer);
+    let before = pool.bytes().to_vec();
+    assert_eq!(pool.take(0), Err(Refusal::SizeZero));
+    for size in [405, 65_536, u32::MAX] {
+        assert_eq!(pool.take(size), Err(Refusal::NoRoom), "{size}");
+    }
+    for offset in [0, 4, 168, 171, 173, 276, 556, 1008, 1020, 1024, 1028, 1 << 31, u32::MAX] {
+        assert_eq!(pool.give_back(offset), Err(Refusal::NotHeld), "{offset}");
+        assert_eq!(pool.ask(offset), Err(Refusal::NotHeld), "{offset}");
+        assert_eq!(pool.lend(offset), Err(Refusal::NotHeld), "{offset}");
+        assert_eq!(pool.lend_mut(offset), Err(Refusal::NotHeld), "{offset}");
+    }
+    assert_eq!(pool.bytes(), before);
+}
+
+#[test]
+fn what_is_written_stays_while_it_is_held() {
+    let mut buffer = vec![0; 4096];
+    let mut pool = Pool::lay_out(&mut buffer).unwrap();
+    let (a, b) = (pool.take(300).unwrap(), pool.take(30).unwrap());
+    pool.lend_mut(a).unwrap().fill(0xAA);
+    pool.lend_mut(b).unwrap().fill(0xBB);
+    let bytes = pool.into_bytes();
+    let pool = Pool::open(bytes).unwrap();
+    assert!(pool.lend(a).unwrap().iter().all(|byte| *byte == 0xAA));
+    assert!(pool.lend(b).unwrap().iter().all(|byte| *byte == 0xBB));
+}
+
+/// Numbers that look random, the same in every run.
+struct Numbers(u64);
+
+impl Numbers {
+    fn below(&mut self, n: usize) -> usize {
+        self.0 ^= self.0 << 13;
+        self.0 ^= self.0 >> 7;
+        self.0 ^= self.0 << 17;
+        (self.0 % n as u64) as usize
+    }
+}
+
+/// Takes and give-backs as they come; each payload keeps the byte that its holder wrote, and the figures are those of the list.
+#[test]
+fn a_long_run() {
+    let mut numbers = Numbers(0x9E37_79B9_7F4A_7C15);
+    let mut buffer = vec![0; 8192];
+    let mut pool = Pool::lay_out(&mut buffer).unwrap();
+    let mut held: Vec<(u32, u8)> = Vec::new();
+    let (mut granted, mut no_room) = (0, 0);
+    for turn in 0..4000 {
+        if held.is_empty() || numbers.below(100) < 55 {
+            let most = if numbers.below(3) == 0 { 60 } else { 400 };
+            match pool.take(1 + numbers.below(most) as u32) {
+                Ok(offset) => {
+                    pool.lend_mut(offset).unwrap().fill(turn as u8);
+                    held.push((offset, turn as u8));
+                    granted += 1;
+                }
+                Err(refusal) => {
+                    assert_eq!(refusal, Refusal::NoRoom);
+                    no_room += 1;
+                }
+            }
+        } else {
+            let (offset, byte) = held.swap_remove(numbers.below(held.len()));
+            assert!(pool.lend(offset).unwrap().iter().all(|b| *b == byte));
+            pool.give_back(offset).unwrap();
+            assert_eq!(pool.give_back(offset), Err(Refusal::NotHeld));
+        }
+        let figures = pool.figures().unwrap();
+        assert_eq!(figures.held_blocks as usize, held.len());
+        assert_eq!(
+            figures.held_bytes,
+            held.iter().map(|(offset, _)| pool.ask(*offset).unwrap() + 4).sum::<u32>()
+        );
+        assert_eq!(figures.held_bytes + figures.free_word + 172, 8192);
+        assert_eq!(pool.class_count().unwrap().iter().sum::<u32>() as usize, held.len());
+    }
+    assert!(1000 < granted && 50 < no_room, "{granted} granted, {no_room} without room");
+}
