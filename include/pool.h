@@ -35,9 +35,9 @@
      with the pool.
    - Nobody else writes these bytes during the call; while a call writes, nobody else reads them.
    - Of an empty pool or list (n = 0, count = 0) nothing is read or written, and any pointer will do, NULL too.
-   No other rule: any n, count, size, offset and bytes get an answer. Between calls the pool's bytes are yours, too. To write
-   outside the payloads that you hold is to write into the pool's books; the next call says POOL_NOT_SOUND, unless what stands
-   there is a sound pool by chance.
+   No other rule: any n, count, size, offset and bytes get an answer. What you write into a payload that you hold never harms
+   the pool. What you write elsewhere may spoil the pool's own words: then the next call says POOL_NOT_SOUND, unless the bytes
+   are a sound pool by chance.
 
    There is no pool_lend: after `r = pool_ask(pool, n, offset)` is done, the payload is the pool_value(r) bytes at pool + offset. */
 #ifndef POOL_H
