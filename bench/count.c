@@ -1,0 +1,213 @@
+// Executed instructions, counted by valgrind between two requests of this program. Each measurement is a dump of its own,
+// under its name; `bench/run` reads the numbers from the dumps. What the two requests themselves cost is measured too.
+#include "measure.h"
+#include <stdio.h>
+#include <stdlib.h>
+#include <string.h>
+#include <valgrind/callgrind.h>
+
+static uint8_t image[LARGEST], pool[LARGEST];
+
+#define COUNTED(call)            \
+    do {                         \
+        CALLGRIND_TOGGLE_COLLECT; \
+        call;                    \
+        CALLGRIND_TOGGLE_COLLECT; \
+    } while (0)
+
+// Ends a measurement of `calls` calls: its dump has the counted instructions since the last one.
+static void done(const char *kind, const char *name, const char *more, unsigned calls) {
+    char text[200];
+    snprintf(text, sizeof text, "%s | %s | %s | %u", kind, name, more, calls);
+    CALLGRIND_DUMP_STATS_AT(text);
+}
+
+static uint64_t nothing(const uint8_t *at, size_t n) { return at ? n : 0; }
+
+// What every measurement below has on top: a call through a pointer, and the requests.
+static void requests_alone(void) {
+    uint64_t (*volatile call)(const uint8_t *, size_t) = nothing;
+    COUNTED(call(pool, LARGEST));
+    done("requests", "", "", 1);
+}
+
+static void inspections(size_t n) {
+    char more[50];
+    for (int s = 0; s < SHAPES; s++) {
+        shapes[s].build(pool, n);
+        for (int l = 0; l < 2; l++) {
+            uint64_t answer;
+            COUNTED(answer = libraries[l]->inspect(pool, n));
+            if (answer != n)
+                abort();
+            snprintf(more, sizeof more, "%zu | %s", n, libraries[l]->name);
+            done("inspect", shapes[s].name, more, 1);
+        }
+    }
+}
+
+static uint64_t operate(const struct operation *o, const struct library *library, uint32_t argument) {
+    uint64_t answer;
+    memcpy(pool, image, LARGEST);
+    if (o->gives)
+        COUNTED(answer = library->give_back(pool, LARGEST, argument));
+    else
+        COUNTED(answer = library->take(pool, LARGEST, argument));
+    return answer;
+}
+
+static void one_operation(const struct operation *o) {
+    char more[100];
+    shapes[o->shape].build(image, LARGEST);
+    uint32_t argument = o->argument(image, LARGEST);
+    uint64_t answers[2], answer;
+    for (int l = 0; l < 2; l++) {
+        answers[l] = operate(o, libraries[l], argument);
+        snprintf(more, sizeof more, "%s | %s", shapes[o->shape].name, libraries[l]->name);
+        done("operation", o->name, more, 1);
+        memcpy(pool, image, LARGEST);
+        COUNTED(libraries[l]->inspect(pool, LARGEST));
+        snprintf(more, sizeof more, "%s | %s inspection", shapes[o->shape].name, libraries[l]->name);
+        done("operation", o->name, more, 1);
+    }
+    memcpy(pool, image, LARGEST);
+    if (o->gives)
+        COUNTED(answer = plain_give_back_unchecked(pool, LARGEST, argument));
+    else
+        COUNTED(answer = plain_take_unchecked(pool, LARGEST, argument));
+    snprintf(more, sizeof more, "%s | plain unchecked", shapes[o->shape].name);
+    done("operation", o->name, more, 1);
+    if (answers[0] != answers[1] || answers[0] != answer)
+        abort();
+}
+
+static void tape(void) {
+    for (int l = 0; l < 2; l++) {
+        memset(pool, 0, sizeof pool);
+        for (int i = 0; i < 13; i++)
+            COUNTED(serve(libraries[l], pool, &worked_tape[i]));
+        done("tape", "", libraries[l]->name, 13);
+    }
+}
+
+// ---- the requests of a console, served by four allocators; takes and give-backs are counted apart
+
+static struct request requests[REQUESTS];
+static uint32_t offsets[RECORDS];
+static void *places[RECORDS];
+enum { OF_ALL, OF_TAKES, OF_GIVE_BACKS };
+
+static int counts(int part, const struct request *r) { return (part == OF_TAKES) == (r->size != 0); }
+
+// The proved library's call, or where `inspection` is set only the inspection that it begins with.
+static void by_proved(int part, int inspection) {
+    pool_lay_out(pool, LARGEST);
+    for (int i = 0; i < REQUESTS; i++) {
+        const struct request *r = &requests[i];
+        uint64_t answer;
+        if (inspection && counts(part, r))
+            COUNTED(pool_inspect(pool, LARGEST));
+        if (inspection || !counts(part, r))
+            answer = r->size ? plain_take_unchecked(pool, LARGEST, r->size)
+                             : plain_give_back_unchecked(pool, LARGEST, offsets[r->record]);
+        else if (r->size)
+            COUNTED(answer = pool_take(pool, LARGEST, r->size));
+        else
+            COUNTED(answer = pool_give_back(pool, LARGEST, offsets[r->record]));
+        if (answer >> 32)
+            abort();
+        offsets[r->record] = (uint32_t)answer;
+    }
+}
+
+static void by_plain(int part) {
+    plain_lay_out(pool, LARGEST);
+    for (int i = 0; i < REQUESTS; i++) {
+        const struct request *r = &requests[i];
+        uint64_t answer;
+        if (!counts(part, r))
+            answer = r->size ? plain_take_unchecked(pool, LARGEST, r->size)
+                             : plain_give_back_unchecked(pool, LARGEST, offsets[r->record]);
+        else if (r->size)
+            COUNTED(answer = plain_take_unchecked(pool, LARGEST, r->size));
+        else
+            COUNTED(answer = plain_give_back_unchecked(pool, LARGEST, offsets[r->record]));
+        if (answer >> 32)
+            abort();
+        offsets[r->record] = (uint32_t)answer;
+    }
+}
+
+static void by_firstfit(int part) {
+    firstfit_lay_out(pool, LARGEST);
+    for (int i = 0; i < REQUESTS; i++) {
+        const struct request *r = &requests[i];
+        uint32_t *offset = &offsets[r->record];
+        if (r->size && part == OF_TAKES)
+            COUNTED(*offset = firstfit_take(pool, r->size));
+        else if (r->size)
+            *offset = firstfit_take(pool, r->size);
+        else if (part == OF_GIVE_BACKS)
+            COUNTED(firstfit_give_back(pool, *offset));
+        else
+            firstfit_give_back(pool, *offset);
+        if (*offset == 0)
+            abort();
+    }
+}
+
+static void by_malloc(int part) {
+    for (int i = 0; i < REQUESTS; i++) {
+        const struct request *r = &requests[i];
+        void **place = &places[r->record];
+        if (r->size && part == OF_TAKES)
+            COUNTED(*place = malloc(r->size));
+        else if (r->size)
+            *place = malloc(r->size);
+        else if (part == OF_GIVE_BACKS)
+            COUNTED(free(*place));
+        else
+            free(*place);
+        if (!r->size)
+            *place = NULL;
+    }
+    for (int i = 0; i < RECORDS; i++) {
+        free(places[i]);
+        places[i] = NULL;
+    }
+}
+
+static void served(void) {
+    make_requests(requests);
+    unsigned takes = 0;
+    for (int i = 0; i < REQUESTS; i++)
+        takes += requests[i].size != 0;
+    for (int part = OF_TAKES; part <= OF_GIVE_BACKS; part++) {
+        const char *name = part == OF_TAKES ? "take" : "give back";
+        unsigned calls = part == OF_TAKES ? takes : REQUESTS - takes;
+        by_proved(part, 0);
+        done("served", name, "proved", calls);
+        by_proved(part, 1);
+        done("served", name, "proved inspection", calls);
+        by_plain(part);
+        done("served", name, "plain unchecked", calls);
+        by_firstfit(part);
+        done("served", name, "first fit", calls);
+        by_malloc(part);
+        done("served", name, "malloc", calls);
+    }
+}
+
+void count(void) {
+    // a call of each library first, so that the loader's work is done
+    for (int l = 0; l < 2; l++)
+        libraries[l]->inspect(pool, libraries[l]->lay_out(pool, LARGEST));
+    CALLGRIND_ZERO_STATS;
+    requests_alone();
+    inspections(LARGEST);
+    inspections(1024);
+    for (int o = 0; o < OPERATIONS; o++)
+        one_operation(&operations[o]);
+    tape();
+    served();
+}

@@ -1,0 +1,478 @@
+// The pool in plain C. The bytes are drawn in crates/paper/src/layout.rt.
+//
+// Inspection believes nothing before it was tested, so the calls after it read and write without a test of their own.
+#include "plain.h"
+#include <stdbool.h>
+#include <string.h>
+
+#if __BYTE_ORDER__ != __ORDER_LITTLE_ENDIAN__
+#error "a pool's words are little-endian, and so must the machine's be here"
+#endif
+
+enum { FREE_WORD = 0, FALSE_WORD = 8, START = 16, END = 24, SMALL_BINS = 24, FALSE_BLOCK = 96, BLOCKS = 168 };
+enum { SMALL_NEXT = 4, PREVIOUS = 4, NEXT = 8, LEVEL = 12, CHAIN = 64, LARGE = 72 };
+enum { NOT_ALLOWED = 1, NOT_SOUND, NO_SIZE, NO_ROOM, NOT_HELD, NOT_53 };
+enum { HELD = 1, P = 2, LEAST_POOL = 176, GREATEST_POOL = 65536, CLASSES = 53 };
+
+static inline uint32_t word(const uint8_t *pool, uint32_t at) {
+    uint32_t v;
+    memcpy(&v, pool + at, 4);
+    return v;
+}
+
+static inline void put(uint8_t *pool, uint32_t at, uint32_t v) { memcpy(pool + at, &v, 4); }
+
+static inline uint64_t refused(uint32_t number) { return (uint64_t)number << 32; }
+
+// ---- inspection
+
+static bool allowed(size_t n) { return n >= LEAST_POOL && n <= GREATEST_POOL && n % 8 == 0; }
+
+// One bit for each 8 bytes: the starts of free blocks that no list has named yet.
+struct marks {
+    uint64_t bits[GREATEST_POOL / 8 / 64];
+};
+
+static inline void mark(struct marks *m, uint32_t q) { m->bits[q / 512] |= (uint64_t)1 << q / 8 % 64; }
+
+// Whether q was marked, and no longer is. So no block is met twice, and no ring is followed for ever.
+static inline bool unmark(struct marks *m, size_t n, uint32_t q) {
+    if (q >= n || q % 8 != 0)
+        return false;
+    uint64_t *w = &m->bits[q / 512], bit = (uint64_t)1 << q / 8 % 64;
+    if (!(*w & bit))
+        return false;
+    *w &= ~bit;
+    return true;
+}
+
+// The words at fixed places.
+static bool header_ok(const uint8_t *pool, size_t n) {
+    uint32_t start = word(pool, START), end = word(pool, END);
+    if (start < BLOCKS || start % 8 != 0 || end % 8 != 0 || end > n || end < 8 || end - 8 < start)
+        return false;
+    if (word(pool, start) != 4 * (end - start) + P)
+        return false;
+    if (word(pool, FALSE_WORD) != FALSE_BLOCK || word(pool, FALSE_BLOCK + LEVEL) != 1)
+        return false;
+    uint32_t other = 0;
+    for (uint32_t at = 4; at < FALSE_BLOCK; at += 8)
+        other |= word(pool, at);
+    for (uint32_t at = FALSE_BLOCK; at < BLOCKS; at += 4)
+        if (at != FALSE_BLOCK + LEVEL && at != FALSE_BLOCK + CHAIN)
+            other |= word(pool, at);
+    return other == 0;
+}
+
+// What the free blocks of the runs come to.
+struct seen {
+    uint32_t count, sum;
+};
+
+// The large blocks from 168 to R.
+static bool scan_large(const uint8_t *pool, struct marks *m, uint32_t end, struct seen *seen) {
+    uint32_t due = P;
+    for (uint32_t p = BLOCKS; p != end;) {
+        uint32_t w = word(pool, p), z = w / 4;
+        if (z < LARGE || z % 8 != 0 || z > end - p)
+            return false;
+        if (w % 4 == (due | HELD)) {
+            due = P;
+        } else {
+            if (due != P || w % 4 != P || word(pool, p + z - 4) != w)
+                return false;
+            mark(m, p);
+            seen->count++;
+            seen->sum += z;
+            due = 0;
+        }
+        p += z;
+    }
+    return due == P;
+}
+
+// The small blocks from E to n.
+static bool scan_small(const uint8_t *pool, struct marks *m, uint32_t from, uint32_t end, struct seen *seen) {
+    for (uint32_t p = from; p != end;) {
+        uint32_t w = word(pool, p), z = w / 4;
+        if (z < 8 || z >= LARGE || z % 8 != 0 || z > end - p)
+            return false;
+        if (w % 4 == P) {
+            mark(m, p);
+            seen->count++;
+            seen->sum += z;
+        } else if (w % 4 != (P | HELD)) {
+            return false;
+        }
+        p += z;
+    }
+    return true;
+}
+
+static bool small_bins_ok(const uint8_t *pool, size_t n, struct marks *m, uint32_t *left) {
+    for (uint32_t z = 8; z < LARGE; z += 8)
+        for (uint32_t q = word(pool, SMALL_BINS + z); q != 0; q = word(pool, q + SMALL_NEXT)) {
+            if (!unmark(m, n, q) || word(pool, q) / 4 != z)
+                return false;
+            --*left;
+        }
+    return true;
+}
+
+// A bin of blocks of size z from `first` on, which is marked.
+static bool large_bin_ok(const uint8_t *pool, size_t n, struct marks *m, uint32_t z, uint32_t first, uint32_t *left) {
+    uint32_t q = first, back = 0;
+    for (;;) {
+        if (!unmark(m, n, q) || word(pool, q) / 4 != z || word(pool, q + PREVIOUS) != back)
+            return false;
+        --*left;
+        uint32_t on = word(pool, q + NEXT);
+        if (on == 0)
+            return true;
+        q += on;
+        back = -on;
+    }
+}
+
+static bool large_bins_ok(const uint8_t *pool, size_t n, struct marks *m, uint32_t *left) {
+    uint32_t f = FALSE_BLOCK, below = LARGE - 1;
+    for (uint32_t on = word(pool, f + CHAIN); on != 0; on = word(pool, f + CHAIN)) {
+        f += on;
+        // a start that is not marked could have words past the pool's end
+        if (f >= n || f % 8 != 0 || !(m->bits[f / 512] >> f / 8 % 64 & 1))
+            return false;
+        uint32_t z = word(pool, f) / 4;
+        if (z <= below || word(pool, f + LEVEL) != 1 || !large_bin_ok(pool, n, m, z, f, left))
+            return false;
+        below = z;
+    }
+    return true;
+}
+
+static bool sound(const uint8_t *pool, size_t n) {
+    if (!header_ok(pool, n))
+        return false;
+    uint32_t start = word(pool, START), end = word(pool, END);
+    struct marks m;
+    memset(&m, 0, (n + 511) / 512 * 8);
+    struct seen seen = {0, 0};
+    if (!scan_large(pool, &m, start, &seen) || !scan_small(pool, &m, end, n, &seen))
+        return false;
+    if (word(pool, FREE_WORD) != seen.sum + (end - start) - 4)
+        return false;
+    uint32_t left = seen.count;
+    return small_bins_ok(pool, n, &m, &left) && large_bins_ok(pool, n, &m, &left) && left == 0;
+}
+
+static uint32_t refusal(const uint8_t *pool, size_t n) {
+    return !allowed(n) ? NOT_ALLOWED : !sound(pool, n) ? NOT_SOUND : 0;
+}
+
+uint64_t plain_inspect(const uint8_t *pool, size_t n) {
+    uint32_t why = refusal(pool, n);
+    return why ? refused(why) : n;
+}
+
+// ---- words of a pool that was inspected
+
+static inline uint32_t size_at(const uint8_t *pool, uint32_t q) { return word(pool, q) / 4; }
+
+static inline uint32_t linked(const uint8_t *pool, uint32_t q, uint32_t field) {
+    uint32_t distance = word(pool, q + field);
+    return distance ? q + distance : 0;
+}
+
+// The word of a link, 0 where it leads nowhere.
+static inline uint32_t link_word(uint32_t from, uint32_t to) { return to ? to - from : 0; }
+
+static inline void add_free(uint8_t *pool, uint32_t size) { put(pool, FREE_WORD, word(pool, FREE_WORD) + size); }
+
+static inline void put_free(uint8_t *pool, uint32_t q, uint32_t size) {
+    put(pool, q, 4 * size + P);
+    put(pool, q + size - 4, 4 * size + P);
+}
+
+// ---- the bins of large blocks
+
+// The last bin's first block that is smaller than `size`; the next one, 0 where there is none, goes to *first.
+static uint32_t find(const uint8_t *pool, uint32_t before, uint32_t size, uint32_t *first) {
+    uint32_t f;
+    while ((f = linked(pool, before, CHAIN)) != 0 && size_at(pool, f) < size)
+        before = f;
+    *first = f;
+    return before;
+}
+
+static void enter(uint8_t *pool, uint32_t q, uint32_t size) {
+    uint32_t first, before = find(pool, FALSE_BLOCK, size, &first);
+    if (first != 0 && size_at(pool, first) == size) {
+        uint32_t next = linked(pool, first, NEXT);
+        put(pool, first + NEXT, q - first);
+        put(pool, q + PREVIOUS, first - q);
+        put(pool, q + NEXT, link_word(q, next));
+        if (next != 0)
+            put(pool, next + PREVIOUS, q - next);
+        return;
+    }
+    put(pool, q + PREVIOUS, 0);
+    put(pool, q + NEXT, 0);
+    put(pool, q + LEVEL, 1);
+    put(pool, q + CHAIN, link_word(q, first));
+    put(pool, before + CHAIN, q - before);
+}
+
+static void leave_later(uint8_t *pool, uint32_t previous, uint32_t q) {
+    uint32_t next = linked(pool, q, NEXT);
+    put(pool, previous + NEXT, link_word(previous, next));
+    if (next != 0)
+        put(pool, next + PREVIOUS, previous - next);
+}
+
+static void leave_first(uint8_t *pool, uint32_t before, uint32_t q) {
+    uint32_t second = linked(pool, q, NEXT), after = linked(pool, q, CHAIN);
+    if (second == 0) {
+        put(pool, before + CHAIN, link_word(before, after));
+        return;
+    }
+    put(pool, second + PREVIOUS, 0);
+    put(pool, second + LEVEL, 1);
+    put(pool, second + CHAIN, link_word(second, after));
+    put(pool, before + CHAIN, second - before);
+}
+
+static void leave(uint8_t *pool, uint32_t q) {
+    uint32_t previous = linked(pool, q, PREVIOUS);
+    if (previous != 0) {
+        leave_later(pool, previous, q);
+        return;
+    }
+    uint32_t first, before = find(pool, FALSE_BLOCK, size_at(pool, q), &first);
+    leave_first(pool, before, q);
+}
+
+// ---- taking
+
+static uint64_t take_small(uint8_t *pool, uint32_t b) {
+    uint32_t q = word(pool, SMALL_BINS + b);
+    if (q != 0) {
+        put(pool, SMALL_BINS + b, word(pool, q + SMALL_NEXT));
+    } else {
+        uint32_t start = word(pool, START), end = word(pool, END);
+        if (end - start < b + 8)
+            return refused(NO_ROOM);
+        q = end - b;
+        put(pool, END, q);
+        put(pool, start, 4 * (q - start) + P);
+    }
+    put(pool, q, 4 * b + P + HELD);
+    add_free(pool, -b);
+    return q + 4;
+}
+
+// The block of the bin at `first` that is used, taken out of it: the second, where there is one.
+static uint32_t leave_bin(uint8_t *pool, uint32_t before, uint32_t first) {
+    uint32_t second = linked(pool, first, NEXT);
+    if (second != 0) {
+        leave_later(pool, first, second);
+        return second;
+    }
+    leave_first(pool, before, first);
+    return first;
+}
+
+static uint64_t take_large(uint8_t *pool, uint32_t b) {
+    uint32_t q, first, before = find(pool, FALSE_BLOCK, b, &first);
+    if (first != 0 && size_at(pool, first) == b) {
+        q = leave_bin(pool, before, first);
+        put(pool, q + b, word(pool, q + b) | P);
+    } else if (before = find(pool, before, b + LARGE, &first), first != 0) {
+        uint32_t z = size_at(pool, first);
+        q = leave_bin(pool, before, first);
+        put_free(pool, q + b, z - b);
+        enter(pool, q + b, z - b);
+    } else {
+        uint32_t end = word(pool, END);
+        q = word(pool, START);
+        if (end - q < b + 8)
+            return refused(NO_ROOM);
+        put(pool, START, q + b);
+        put(pool, q + b, 4 * (end - q - b) + P);
+    }
+    put(pool, q, 4 * b + P + HELD);
+    add_free(pool, -b);
+    return q + 4;
+}
+
+uint64_t plain_take_unchecked(uint8_t *pool, size_t n, uint32_t size) {
+    (void)n;
+    if (size == 0)
+        return refused(NO_SIZE);
+    if (size > GREATEST_POOL - 4)
+        return refused(NO_ROOM);
+    uint32_t b = (size + 4 + 7) / 8 * 8;
+    return b < LARGE ? take_small(pool, b) : take_large(pool, b);
+}
+
+uint64_t plain_take(uint8_t *pool, size_t n, uint32_t size) {
+    uint32_t why = refusal(pool, n);
+    return why ? refused(why) : plain_take_unchecked(pool, n, size);
+}
+
+// ---- giving back
+
+// The size of the held block whose payload starts at `offset`, 0 where there is none: only a start in the walk counts.
+static uint32_t held_at(const uint8_t *pool, size_t n, uint32_t offset) {
+    if (offset < 4 || offset - 4 >= n)
+        return 0;
+    uint32_t at = offset - 4, start = word(pool, START), p = at < start ? (uint32_t)BLOCKS : word(pool, END);
+    while (p < at)
+        p += size_at(pool, p);
+    if (p != at)
+        return 0;
+    uint32_t w = word(pool, p);
+    return w & HELD ? w / 4 : 0;
+}
+
+static void give_back_small(uint8_t *pool, uint32_t q, uint32_t z) {
+    put(pool, q, 4 * z + P);
+    put(pool, q + SMALL_NEXT, word(pool, SMALL_BINS + z));
+    put(pool, SMALL_BINS + z, q);
+}
+
+// Both neighbours leave. The one that leaves first may store into the other, whose words are no longer governed
+// afterwards and must stay as they were.
+static void leave_both(uint8_t *pool, uint32_t below, uint32_t above) {
+    uint8_t links[12];
+    uint32_t chain = word(pool, above + CHAIN);
+    memcpy(links, pool + above + PREVIOUS, 12);
+    leave(pool, below);
+    leave(pool, above);
+    memcpy(pool + above + PREVIOUS, links, 12);
+    put(pool, above + CHAIN, chain);
+}
+
+static void give_back_large(uint8_t *pool, uint32_t q, uint32_t z) {
+    uint32_t from = word(pool, q) & P ? q : q - size_at(pool, q - 4), to = q + z;
+    if (to == word(pool, START)) {
+        if (from != q)
+            leave(pool, from);
+        put(pool, START, from);
+        put(pool, from, 4 * (word(pool, END) - from) + P);
+        return;
+    }
+    uint32_t above = word(pool, to);
+    if (above & HELD) {
+        if (from != q)
+            leave(pool, from);
+        put(pool, to, above & ~(uint32_t)P);
+    } else {
+        if (from != q)
+            leave_both(pool, from, to);
+        else
+            leave(pool, to);
+        to += above / 4;
+    }
+    put_free(pool, from, to - from);
+    enter(pool, from, to - from);
+}
+
+uint64_t plain_give_back_unchecked(uint8_t *pool, size_t n, uint32_t offset) {
+    uint32_t z = held_at(pool, n, offset);
+    if (z == 0)
+        return refused(NOT_HELD);
+    if (z < LARGE)
+        give_back_small(pool, offset - 4, z);
+    else
+        give_back_large(pool, offset - 4, z);
+    add_free(pool, z);
+    return z - 4;
+}
+
+uint64_t plain_give_back(uint8_t *pool, size_t n, uint32_t offset) {
+    uint32_t why = refusal(pool, n);
+    return why ? refused(why) : plain_give_back_unchecked(pool, n, offset);
+}
+
+// ---- the other calls
+
+uint64_t plain_lay_out(uint8_t *pool, size_t n) {
+    if (!allowed(n))
+        return refused(NOT_ALLOWED);
+    uint32_t rest = n - BLOCKS;
+    memset(pool, 0, BLOCKS);
+    put(pool, FREE_WORD, rest - 4);
+    put(pool, FALSE_WORD, FALSE_BLOCK);
+    put(pool, START, BLOCKS);
+    put(pool, END, n);
+    put(pool, FALSE_BLOCK + LEVEL, 1);
+    put(pool, BLOCKS, 4 * rest + P);
+    return n;
+}
+
+uint64_t plain_ask(const uint8_t *pool, size_t n, uint32_t offset) {
+    uint32_t why = refusal(pool, n);
+    if (why)
+        return refused(why);
+    uint32_t z = held_at(pool, n, offset);
+    return z ? z - 4 : refused(NOT_HELD);
+}
+
+// Figures: held blocks, held bytes, free small, free large, remainder, free word, largest grant.
+static void tally(const uint8_t *pool, uint32_t from, uint32_t to, uint32_t *figures) {
+    for (uint32_t w, p = from; p < to; p += w / 4) {
+        w = word(pool, p);
+        if (w & HELD) {
+            figures[0]++;
+            figures[1] += w / 4;
+        } else {
+            figures[w / 4 < LARGE ? 2 : 3]++;
+            if (figures[6] < w / 4)
+                figures[6] = w / 4;
+        }
+    }
+}
+
+uint64_t plain_figures(const uint8_t *pool, size_t n, uint32_t *figures, size_t count) {
+    uint32_t why = refusal(pool, n);
+    if (why || count != 7)
+        return refused(why ? why : NOT_53);
+    uint32_t start = word(pool, START), end = word(pool, END);
+    memset(figures, 0, 7 * sizeof *figures);
+    figures[4] = figures[6] = end - start;
+    figures[5] = word(pool, FREE_WORD);
+    tally(pool, BLOCKS, start, figures);
+    tally(pool, end, n, figures);
+    figures[6] -= 4;
+    return n;
+}
+
+// The least class of a payload: class k has size (4 + k mod 4) × 2^(k div 4 + 1).
+static uint32_t class_of(uint32_t payload) {
+    uint32_t k = 0;
+    while ((uint32_t)(4 + k % 4) << (k / 4 + 1) < payload)
+        k++;
+    return k;
+}
+
+static uint32_t count_run(const uint8_t *pool, uint32_t from, uint32_t to, uint32_t *counts) {
+    uint32_t held = 0;
+    for (uint32_t w, p = from; p < to; p += w / 4) {
+        w = word(pool, p);
+        if (w & HELD) {
+            counts[class_of(w / 4 - 4)]++;
+            held++;
+        }
+    }
+    return held;
+}
+
+uint64_t plain_class_count(const uint8_t *pool, size_t n, uint32_t *counts, size_t count) {
+    uint32_t why = refusal(pool, n);
+    if (why)
+        return refused(why);
+    if (count != CLASSES)
+        return refused(NOT_53);
+    memset(counts, 0, CLASSES * sizeof *counts);
+    uint32_t low = count_run(pool, BLOCKS, word(pool, START), counts);
+    return low + count_run(pool, word(pool, END), n, counts);
+}

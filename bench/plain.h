@@ -1,0 +1,20 @@
+// The pool in plain C, to be measured against: the same bytes, the same calls and the same tests as the proved library.
+//
+// An answer is one number: the refusal in the upper 32 bits, the value in the lower. Every call but laying out inspects the
+// pool first. The forms `_unchecked` leave that out, and nothing else: a give-back still looks its offset up.
+#ifndef PLAIN_H
+#define PLAIN_H
+#include <stddef.h>
+#include <stdint.h>
+
+uint64_t plain_lay_out(uint8_t *pool, size_t n);
+uint64_t plain_inspect(const uint8_t *pool, size_t n);
+uint64_t plain_take(uint8_t *pool, size_t n, uint32_t size);
+uint64_t plain_give_back(uint8_t *pool, size_t n, uint32_t offset);
+uint64_t plain_ask(const uint8_t *pool, size_t n, uint32_t offset);
+uint64_t plain_figures(const uint8_t *pool, size_t n, uint32_t *figures, size_t count);
+uint64_t plain_class_count(const uint8_t *pool, size_t n, uint32_t *counts, size_t count);
+
+uint64_t plain_take_unchecked(uint8_t *pool, size_t n, uint32_t size);
+uint64_t plain_give_back_unchecked(uint8_t *pool, size_t n, uint32_t offset);
+#endif

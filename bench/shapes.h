@@ -1,0 +1,36 @@
+// The pools that are measured, the operations on them, and the run of requests that every allocator serves.
+#ifndef SHAPES_H
+#define SHAPES_H
+#include <stddef.h>
+#include <stdint.h>
+
+enum { SHAPES = 5, OPERATIONS = 12, REQUESTS = 4000, RECORDS = 200, LARGEST = 65536 };
+
+struct shape {
+    const char *name;
+    void (*build)(uint8_t *pool, size_t n);
+};
+extern const struct shape shapes[SHAPES];
+
+// A take or a give-back on a shape. `argument` finds the size or the offset, and may change the pool first.
+struct operation {
+    const char *name;
+    int shape;
+    int gives;
+    uint32_t (*argument)(uint8_t *pool, size_t n);
+};
+extern const struct operation operations[OPERATIONS];
+
+// Request i takes `size` bytes for its record, or gives the record back where the size is 0.
+struct request {
+    uint32_t record, size;
+};
+void make_requests(struct request *requests);
+
+// The worked tape's calls: kind L, T, G or S and its number.
+struct call {
+    char kind;
+    uint32_t number, value;
+};
+extern const struct call worked_tape[13];
+#endif

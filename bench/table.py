@@ -1,0 +1,178 @@
+"""Turns the measurements into the tables of docs/BENCH.md and the plot docs/bench.svg.
+
+    table.py FOLDER DOCS   FOLDER has the files that bench/run leaves: machine, text, stack, time, and the dumps of the counts.
+                           In DOCS/BENCH.md only what stands between the two marker lines is replaced.
+"""
+
+import glob
+import os
+import sys
+
+GOAL = 1.25
+BEGIN, END = "<!-- measured: begin -->", "<!-- measured: end -->"
+
+
+def lines_of(path):
+    with open(path) as file:
+        return [[part.strip() for part in line.split("|")] for line in file if line.strip()]
+
+
+def counted(folder):
+    """Instructions by name, a call: those of the dump, less what an empty measurement counts."""
+    found, alone = {}, 0
+    for path in glob.glob(os.path.join(folder, "out.*")):
+        name = total = None
+        with open(path) as file:
+            for line in file:
+                if line.startswith("desc: Trigger: Client Request:"):
+                    name = line.split(":", 3)[3]
+                elif line.startswith("totals:"):
+                    total = int(line.split()[1])
+        if name is None or total is None:
+            continue
+        key = [part.strip() for part in name.split("|")]
+        if key[0] == "requests":
+            alone = total
+        else:
+            found[tuple(key[:-1])] = (total, int(key[-1]))
+    return {key: total / calls - alone for key, (total, calls) in found.items()}
+
+
+def number(value):
+    return f"{value:,.1f}" if abs(value) < 100 else f"{value:,.0f}"
+
+
+def ratio(ours, theirs):
+    return f"{ours / theirs:.2f}" if theirs > 0 else "-"
+
+
+def table(head, rows):
+    out = ["| " + " | ".join(head) + " |", "|" + "|".join(["---"] + ["---:"] * (len(head) - 1)) + "|"]
+    return out + ["| " + " | ".join(row) + " |" for row in rows] + [""]
+
+
+def unique(keys):
+    return list(dict.fromkeys(keys))
+
+
+class Report:
+    def __init__(self, folder):
+        self.count = counted(os.path.join(folder, "dumps"))
+        self.time = {tuple(line[:-1]): float(line[-1]) for line in lines_of(os.path.join(folder, "time"))}
+        self.stack = lines_of(os.path.join(folder, "stack"))
+        self.text = lines_of(os.path.join(folder, "text"))
+        self.machine = lines_of(os.path.join(folder, "machine"))
+        self.bars = []  # of the plot: name, ratio
+        self.shapes = unique(key[1] for key in self.time if key[0] == "inspect")
+
+    def bar(self, name, ours, theirs):
+        self.bars.append((name, ours / theirs))
+        return ratio(ours, theirs)
+
+    def inspection(self, n):
+        rows = []
+        for shape in self.shapes:
+            ours, theirs = (self.count["inspect", shape, str(n), who] for who in ("proved", "plain"))
+            each = n / 1024
+            row = [shape, number(ours / each), number(theirs / each)]
+            row.append(self.bar("inspect, " + shape, ours, theirs) if n == 65536 else ratio(ours, theirs))
+            if n == 65536:
+                spent = [self.time["inspect", shape, who] for who in ("proved", "plain")]
+                row += [number(spent[0] / each), number(spent[1] / each), ratio(*spent)]
+            rows.append(row)
+        head = ["Pool", "Proved", "Plain C", "Ratio"] + (["Proved, ns", "Plain C, ns", "Ratio"] if n == 65536 else [])
+        return table(head, rows)
+
+    def operations(self):
+        rows = []
+        for kind, name, shape, who in self.count_keys("operation", "proved"):
+            ours, look = self.count[kind, name, shape, who], self.count[kind, name, shape, who + " inspection"]
+            theirs, bare = self.count[kind, name, shape, "plain"], self.count[kind, name, shape, "plain unchecked"]
+            label = f"{shape}: {name}"
+            rows.append([label, number(ours), number(theirs), self.bar(label, ours, theirs),
+                         number(ours - look), number(bare), self.bar(label + ", not inspected", ours - look, bare)])
+        return table(["Call", "Proved", "Plain C", "Ratio", "Proved, not inspected", "Plain C, not inspected", "Ratio"], rows)
+
+    def count_keys(self, kind, who):
+        keys = [key for key in self.count if key[0] == kind and key[-1] == who]
+        return sorted(keys, key=lambda key: (self.shapes.index(key[2]), key[1]))
+
+    def pairs(self):
+        rows = []
+        for key in self.time:
+            if key[0] == "pair" and key[-1] == "proved":
+                ours, theirs = self.time[key], self.time[key[:-1] + ("plain",)]
+                rows.append([f"{key[1]}: {key[2]}", number(ours), number(theirs), ratio(ours, theirs)])
+        ours, theirs = self.time["tape", "proved"], self.time["tape", "plain"]
+        rows.append(["the worked tape", number(ours), number(theirs), ratio(ours, theirs)])
+        return table(["What", "Proved, ns", "Plain C, ns", "Ratio"], rows)
+
+    def tape(self):
+        ours, theirs = (13 * self.count["tape", "", who] for who in ("proved", "plain"))
+        return table(["Run", "Proved", "Plain C", "Ratio"],
+                     [["the worked tape, 13 calls", number(ours), number(theirs), self.bar("the worked tape", ours, theirs)]])
+
+    def served(self):
+        rows = []
+        for name in ("take", "give back"):
+            get = lambda who: self.count["served", name, who]
+            ours = get("proved") - get("proved inspection")
+            rows.append([name, number(ours)] + [number(get(who)) for who in ("plain unchecked", "first fit", "malloc")])
+        spent = [number(self.time["served", who]) for who in ("plain unchecked", "first fit", "malloc")]
+        rows.append(["ns a request", "-"] + spent)
+        return table(["A request", "Proved, not inspected", "Plain C, not inspected", "First fit", "malloc and free"], rows)
+
+    def sizes(self):
+        out = table(["Call", "Stack, bytes"], [["`pool_" + name + "`", number(int(bytes_))] for _, name, bytes_ in self.stack])
+        return out + table(["Code", "Text, bytes"], [[name, number(int(bytes_))] for name, bytes_ in self.text])
+
+    def markdown(self):
+        out = table(["Measured on", ""], [[name, what] for name, what in self.machine])
+        out += ["### Inspection: instructions per KiB of a pool of 65,536 bytes", ""] + self.inspection(65536)
+        out += ["### Inspection: instructions for a pool of 1,024 bytes", ""] + self.inspection(1024)
+        out += ["### Taking and giving back: instructions a call, a pool of 65,536 bytes", ""] + self.operations()
+        out += ["### The worked tape: instructions", ""] + self.tape()
+        out += ["### Times with inspection", ""] + self.pairs()
+        out += ["### Against a textbook list and the C library: instructions a call, nobody inspects", ""] + self.served()
+        out += ["### Stack and text", ""] + self.sizes()
+        within = sum(value <= GOAL for _, value in self.bars)
+        out += [f"Within {GOAL} times plain C: {within} of {len(self.bars)} counted ratios.", ""]
+        return "\n".join(out)
+
+    def svg(self):
+        """A bar for each ratio of counted instructions; the line is the goal."""
+        left, width, step, top = 470, 400, 20, 40
+        most = max([2.0] + [value for _, value in self.bars])
+        height, scale = top + step * len(self.bars) + 20, width / most
+        out = [f'<svg xmlns="http://www.w3.org/2000/svg" width="{left + width + 60}" height="{height}" '
+               'font-family="sans-serif" font-size="12">',
+               '<rect width="100%" height="100%" fill="white"/>',
+               f'<text x="{left}" y="16">instructions of the proved library, times those of plain C (line: {GOAL})</text>']
+        for index, (name, value) in enumerate(self.bars):
+            y = top + step * index
+            colour = "#4a7" if value <= GOAL else "#c83"
+            out.append(f'<text x="{left - 8}" y="{y + 12}" text-anchor="end">{name}</text>')
+            out.append(f'<rect x="{left}" y="{y}" width="{value * scale:.1f}" height="{step - 5}" fill="{colour}"/>')
+            out.append(f'<text x="{left + value * scale + 4:.1f}" y="{y + 12}">{value:.2f}</text>')
+        for at, colour in ((1, "#999"), (GOAL, "#000")):
+            x = left + at * scale
+            out.append(f'<line x1="{x:.1f}" y1="{top - 14}" x2="{x:.1f}" y2="{height - 12}" stroke="{colour}"/>')
+        return "\n".join(out + ["</svg>", ""])
+
+
+def main():
+    folder, docs = sys.argv[1:]
+    report = Report(folder)
+    page = os.path.join(docs, "BENCH.md")
+    with open(page) as file:
+        text = file.read()
+    before, after = text.split(BEGIN)[0], text.split(END)[1]
+    measured = report.markdown()
+    with open(page, "w") as file:
+        file.write(f"{before}{BEGIN}\n{measured}\n{END}{after}")
+    with open(os.path.join(docs, "bench.svg"), "w") as file:
+        file.write(report.svg())
+    print(measured)
+
+
+main()
