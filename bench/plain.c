@@ -46,6 +46,14 @@ static inline bool unmark(struct marks *m, size_t n, uint32_t q) {
     return true;
 }
 
+// What the words from `from` to `to`, `step` apart, have in them; 0 where all are 0.
+static inline uint32_t any(const uint8_t *pool, uint32_t from, uint32_t to, uint32_t step) {
+    uint32_t bits = 0;
+    for (uint32_t at = from; at < to; at += step)
+        bits |= word(pool, at);
+    return bits;
+}
+
 // The words at fixed places.
 static bool header_ok(const uint8_t *pool, size_t n) {
     uint32_t start = word(pool, START), end = word(pool, END);
@@ -55,13 +63,8 @@ static bool header_ok(const uint8_t *pool, size_t n) {
         return false;
     if (word(pool, FALSE_WORD) != FALSE_BLOCK || word(pool, FALSE_BLOCK + LEVEL) != 1)
         return false;
-    uint32_t other = 0;
-    for (uint32_t at = 4; at < FALSE_BLOCK; at += 8)
-        other |= word(pool, at);
-    for (uint32_t at = FALSE_BLOCK; at < BLOCKS; at += 4)
-        if (at != FALSE_BLOCK + LEVEL && at != FALSE_BLOCK + CHAIN)
-            other |= word(pool, at);
-    return other == 0;
+    return !(any(pool, 4, FALSE_BLOCK, 8) | any(pool, FALSE_BLOCK, FALSE_BLOCK + LEVEL, 4) |
+             any(pool, FALSE_BLOCK + LEVEL + 4, FALSE_BLOCK + CHAIN, 4) | word(pool, FALSE_BLOCK + CHAIN + 4));
 }
 
 // What the free blocks of the runs come to.
