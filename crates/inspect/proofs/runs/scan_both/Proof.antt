@@ -9,11 +9,11 @@ scan-both-spec =
     tie.close
     (tie.spec (λ c κs. search needs) (λ c. search needs)
     (λ c. let d = c .before .before .before .before in
-    record { less-sum = search needs; all = both-lost _ _ _ _ _ _ (d .scan .result) (d .scan .ensures .all) (c .if1 .taken) })
+    record { less-sum = search needs; all = both-lost _ _ _ _ _ _ (d .scan-large .result) (d .scan-large .ensures .all) (c .if1 .taken) })
     (λ c. search needs) (λ c. search needs) (λ c κs. search needs) (λ c. search needs)
     (λ c. let d = c .before .before .before .before .before .before .before .before .before .before in
     record {
       less-sum = search needs;
-      all = both-on _ _ _ _ _ _ (d .scan .result) (d .scan .ensures .all) (c .before .before .before .before .before .before .if1 .left)
-          (c .before .before .scan2 .ensures .all);
+      all = both-on _ _ _ _ _ _ (d .scan-large .result) (d .scan-large .ensures .all) (c .before .before .before .before .before .before .if1 .left)
+          (c .before .before .scan-small .ensures .all);
     }))

@@ -1,16 +1,16 @@
--- `scan`: the invariant says that the whole walk is the walk from here. Each way out and each way on has its law.
+-- `scan_large`: the invariant says that the whole walk is the walk from here. Each way out and each way on has its law.
 use Prim.Native.Nat.{_-_}
 use native.Mathlib.Omega.{arith}
 use borrow.Author.Needs.{needs}
 use Rattle.inspect.proofs.runs.Laws.{Scanning, begin, fit-facts, scan-done, scan-bad-end, scan-unfit, scan-unfree, scan-held, scan-free}
-use Rattle.inspect.proofs.runs.scan.Statement.{statement}
-use Rattle.inspect.proofs.runs.scan.Tie as tie
+use Rattle.inspect.proofs.runs.scan_large.Statement.{statement}
+use Rattle.inspect.proofs.runs.scan_large.Tie as tie
 
 abbrev Inv-loop : tie.InvT-loop
-Inv-loop pool m₀ c e from n0 sum0 p₀ f₀ n₀ sum₀ m p f n sum = Scanning pool m₀ c e from n0 sum0 m p f n sum
+Inv-loop pool m₀ e from n0 sum0 p₀ f₀ n₀ sum₀ m p f n sum = Scanning pool m₀ 0 e from n0 sum0 m p f n sum
 
 abbrev μ-loop : tie.MeasureT-loop
-μ-loop pool m₀ c e from n0 sum0 p₀ f₀ n₀ sum₀ m p f n sum = e - p
+μ-loop pool m₀ e from n0 sum0 p₀ f₀ n₀ sum₀ m p f n sum = e - p
 
 unfit : tie.Need-returns Inv-loop μ-loop
 unfit c =
@@ -18,14 +18,14 @@ unfit c =
       few = search needs;
       less-sum = search needs;
       all = scan-unfit (c .before .before .before .before .loop .inv) (c .before .before .before .loop-test .taken)
-          (c .before .before .get32 .ensures) (c .before .fits2 .ensures) (c .if1 .taken);
+          (c .before .before .get32 .ensures) (c .before .fits-large .ensures) (c .if1 .taken);
     }
 
 past-held : tie.Need-loop-again Inv-loop μ-loop
 past-held c =
     scan-held (c .before .before .before .before .before .loop .inv) (c .before .before .before .before .loop-test .taken)
     (c .before .before .before .get32 .ensures)
-    (c .before .before .fits2 .ensures) (c .before .if1 .left) (search needs) (c .if2 .taken)
+    (c .before .before .fits-large .ensures) (c .before .if1 .left) (search needs) (c .if2 .taken)
 
 not-free : tie.Need-returns-2 Inv-loop μ-loop
 not-free c =
@@ -34,7 +34,7 @@ not-free c =
       less-sum = search needs;
       all = scan-unfree (c .before .before .before .before .before .before .before .loop .inv)
           (c .before .before .before .before .before .before .loop-test .taken)
-          (c .before .before .before .before .before .get32 .ensures) (c .before .before .before .before .fits2 .ensures)
+          (c .before .before .before .before .before .get32 .ensures) (c .before .before .before .before .fits-large .ensures)
           (c .before .before .before .if1 .left)
           (c .before .before .if2 .left) (c .before .free-ok .ensures) (c .if3 .taken);
     }
@@ -44,32 +44,32 @@ past-free c =
     let d = c .before .before .before .before in
     scan-free (d .before .before .before .before .before .before .before .loop .inv)
     (d .before .before .before .before .before .before .loop-test .taken)
-    (d .before .before .before .before .before .get32 .ensures) (d .before .before .before .before .fits2 .ensures)
+    (d .before .before .before .before .before .get32 .ensures) (d .before .before .before .before .fits-large .ensures)
     (d .before .before .before .if1 .left)
     (d .before .before .if2 .left) (d .before .free-ok .ensures) (search needs) (search needs) (d .if3 .left) (c .before .before .put-in .ensures)
 
-pub scan-spec : {M : Type 1} → statement M
-scan-spec =
+pub scan-large-spec : {M : Type 1} → statement M
+scan-large-spec =
     tie.close
     (tie.spec Inv-loop μ-loop (λ c. begin _ _ _ _ _ _ _ (search needs)) (λ c. search needs) (λ c κs. search needs) (λ c κs. search needs)
     (λ c. search needs) unfit
     (λ c. search needs) (λ c. search needs) (λ c. search needs) (λ c. search needs)
-    (λ c. omega (arith, fit-facts _ _ _ _ (c .before .before .fits2 .ensures) (c .before .if1 .left)))
-    (λ c. omega (arith, fit-facts _ _ _ _ (c .before .before .fits2 .ensures) (c .before .if1 .left)))
+    (λ c. omega (arith, fit-facts _ _ _ _ (c .before .before .fits-large .ensures) (c .before .if1 .left)))
+    (λ c. omega (arith, fit-facts _ _ _ _ (c .before .before .fits-large .ensures) (c .before .if1 .left)))
     past-held (λ c κs. search needs) (λ c. search needs) not-free (λ c. search needs) (λ c κs. search needs) (λ c. search needs) (λ c. search needs)
     (λ c. omega (
       arith,
-      fit-facts _ _ _ _ (c .before .before .before .before .before .before .before .before .fits2 .ensures)
+      fit-facts _ _ _ _ (c .before .before .before .before .before .before .before .before .fits-large .ensures)
           (c .before .before .before .before .before .before .before .if1 .left),
     ))
     (λ c. omega (
       arith,
-      fit-facts _ _ _ _ (c .before .before .before .before .before .before .before .before .fits2 .ensures)
+      fit-facts _ _ _ _ (c .before .before .before .before .before .before .before .before .fits-large .ensures)
           (c .before .before .before .before .before .before .before .if1 .left),
     ))
     (λ c. omega (
       arith,
-      fit-facts _ _ _ _ (c .before .before .before .before .before .before .before .before .fits2 .ensures)
+      fit-facts _ _ _ _ (c .before .before .before .before .before .before .before .before .fits-large .ensures)
           (c .before .before .before .before .before .before .before .if1 .left),
     ))
     past-free (λ c. search needs) (λ c. record { few = search needs; less-sum = search needs; all = search scan-bad-end }) (λ c. search needs)
