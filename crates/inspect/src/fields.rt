@@ -64,7 +64,10 @@ pub fn false_block_ok(pool: &[u8]) -> bool
 pub fn link_ok(q: u32, w: u32) -> bool
     ensures { λ r. ⌜ r ≡ eqb w (linkWord q (followed q w)) ⌝ }
 {
-    w == heads::link_word(q, heads::follow(q, w))
+    if w == 0 {
+        return true;
+    }
+    heads::follow(q, w) != 0
 }
 
 // k words from `from` on, st apart, are 0. Past the end all are.

@@ -2,12 +2,13 @@
 use mathlib.Core.Path.{_≡_, refl, sym, ap, _∙_, subst}
 use mathlib.Core.Bool.{Bool, true, false, not}
 use mathlib.Core.List.{List}
-use Prim.Native.Nat.{ℕ, zero, suc, _+_, _-_, _*_, _%_, _≤_}
+use Prim.Native.Nat.{ℕ, zero, suc, _+_, _-_, _*_, _%_, _≤_, _<_}
 use native.Mathlib.Omega.{arith}
 use lib.ListN.{length}
 use lib.Dec.{eqb}
-use borrow.Author.Tests.{eq-eqb, eqb-true, not-false}
-use Rattle.words.specs.Choice.{if=-yes, if=-no}
+use borrow.Author.Tests.{eq-eqb, ne-eqb, eqb-true, not-false}
+use Rattle.words.specs.Choice.{if=-yes, if=-no, by=}
+use Rattle.words.specs.Sums.{plus, minus}
 use Rattle.words.specs.Words.{wordAt}
 use Rattle.words.proofs.Laws.{word-out}
 use Rattle.heads.specs.Links.{linkWord, followed}
@@ -17,8 +18,20 @@ use Rattle.inspect.proofs.Guards.{pass-is, passed}
 
 -- ---- links
 
-pub linked : (q w : ℕ) {t v : ℕ} → t ≡ followed q w → v ≡ linkWord q t → eqb w v ≡ eqb w (linkWord q (followed q w))
-linked q w e f = ap (eqb w) (f ∙ ap (linkWord q) e)
+-- no distance is written as 0
+pub no-link : (q w : ℕ) → w ≡ 0 → true ≡ eqb w (linkWord q (followed q w))
+unfolding linkWord followed
+no-link q w e = sym (eq-eqb _ _ (e ∙ sym (if=-yes _ 0 _ _ (if=-yes w 0 _ _ e))))
+
+-- a distance that leads nowhere would be written as 0, and any other comes back
+pub linked : (q w : ℕ) {t : ℕ} → q < 4294967296 → w < 4294967296 → (w ≡ 0 → ⊥) → t ≡ followed q w
+    → not (eqb t 0) ≡ eqb w (linkWord q (followed q w))
+unfolding linkWord followed
+linked q w {t} lq lw n e =
+    let there : followed q w ≡ plus q w = if=-no w 0 _ _ n in
+    by= t 0
+    (λ h. ap not (eq-eqb t 0 h) ∙ sym (ne-eqb _ _ (λ k. n (k ∙ if=-yes _ 0 _ _ (sym e ∙ h)))))
+    (λ h. ap not (ne-eqb t 0 h) ∙ sym (eq-eqb _ _ (sym (if=-no _ 0 _ _ (λ k. h (e ∙ k)) ∙ ap (λ (v : ℕ). minus v q) there ∙ omega arith))))
 
 pub link-true : (q : ℕ) {b : Bool} {w l : ℕ} → b ≡ eqb w (linkWord q (followed q w)) → w ≡ l → b ≡ true → l ≡ linkWord q (followed q l)
 link-true q {b} {w} {l} e f h = subst (λ (v : ℕ). v ≡ linkWord q (followed q v)) f (eqb-true _ _ (sym e ∙ h))
