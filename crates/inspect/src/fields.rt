@@ -51,13 +51,13 @@ pub fn false_block_ok(pool: &[u8]) -> bool
     if words::field(pool, FALSE_BLOCK, CHAIN + 4) != 0 {
         return false;
     }
-    if !cleared(pool, 12, 8, 4) {
+    if !halves_cleared(pool) {
         return false;
     }
-    if !cleared(pool, 3, 4, FALSE_BLOCK) {
+    if !low_cleared(pool) {
         return false;
     }
-    cleared(pool, 12, 4, FALSE_BLOCK + 16)
+    high_cleared(pool)
 }
 
 // The word w at q is a distance as it is written; another word could lead to 0, which is no block.
@@ -85,6 +85,63 @@ fn cleared(pool: &[u8], k: u32, st: u32, from: u32) -> bool
         }
         left -= 1;
         at += st as usize;
+    }
+    true
+}
+
+// The high halves of the header's words are 0. In a pool with room for them the places are constants, and ask no test.
+fn halves_cleared(pool: &[u8]) -> bool
+    ensures { λ r. ⌜ r ≡ cleared-of (now (pool .entry)) 12 8 4 ⌝ }
+{
+    if pool.len() < BLOCKS as usize {
+        return cleared(pool, 12, 8, 4);
+    }
+    let mut left: u32 = 12;
+    let mut at: usize = 4;
+    while left != 0 {
+        if words::get32(pool, at) != 0 {
+            return false;
+        }
+        left -= 1;
+        at += 8;
+    }
+    true
+}
+
+// The false block's words below its level word are 0.
+fn low_cleared(pool: &[u8]) -> bool
+    ensures { λ r. ⌜ r ≡ cleared-of (now (pool .entry)) 3 4 96 ⌝ }
+{
+    if pool.len() < BLOCKS as usize {
+        return cleared(pool, 3, 4, 96);
+    }
+    let mut left: u32 = 3;
+    let mut at: usize = 96;
+    while left != 0 {
+        if words::get32(pool, at) != 0 {
+            return false;
+        }
+        left -= 1;
+        at += 4;
+    }
+    true
+}
+
+// The false block's words between its level word and its chain word are 0.
+fn high_cleared(pool: &[u8]) -> bool
+    ensures { λ r. ⌜ r ≡ cleared-of (now (pool .entry)) 12 4 112 ⌝ }
+{
+    if pool.len() < BLOCKS as usize {
+        return cleared(pool, 12, 4, 112);
+    }
+    let mut left: u32 = 12;
+    let mut at: usize = 112;
+    while left != 0 {
+        if words::get32(pool, at) != 0 {
+            return false;
+        }
+        left -= 1;
+        at += 4;
     }
     true
 }
