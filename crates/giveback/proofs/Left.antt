@@ -95,11 +95,11 @@ module _ (bs : List ℕ) (s : State) (W : Loose s) (fits : end s ≤ 65536) (l :
 -- ---- the words of r put back
 
 -- a word of bs put into cs
-module _ (bs cs : List ℕ) (a i : ℕ) (B : Bytes bs) (m : a + 4 ≤ length cs) where
+module _ (bs cs : List ℕ) (a i : ℕ) (B : Bytes bs) (m : a + 4 ≤ length cs) (m' : a + 4 ≤ length bs) where
   pub copied-in : a ≤ i → i < a + 4 → getD (putAt 4 cs a (wordAt 4 bs a)) i 0 ≡ getD bs i 0
   copied-in k n =
       getD-put-in 4 cs a (wordAt 4 bs a) i (i - a) (omega arith) (omega arith) m
-      ∙ octet-word 4 bs a (i - a) B (omega arith)
+      ∙ octet-word 4 bs a (i - a) m' B (omega arith)
       ∙ ap (λ (j : ℕ). getD bs j 0) (omega arith)
 
   pub copied-same : getD cs i 0 ≡ getD bs i 0 → getD (putAt 4 cs a (wordAt 4 bs a)) i 0 ≡ getD bs i 0
@@ -107,7 +107,7 @@ module _ (bs cs : List ℕ) (a i : ℕ) (B : Bytes bs) (m : a + 4 ≤ length cs)
       by< i a (λ k. getD-put 4 cs a (wordAt 4 bs a) i (inl k) ∙ e)
       (λ k. by< i (a + 4) (λ n. copied-in k n) (λ n. getD-put 4 cs a (wordAt 4 bs a) i (inr n) ∙ e))
 
-module _ (bs cs : List ℕ) (r : ℕ) (B : Bytes bs) (m : r + 68 ≤ length cs) where
+module _ (bs cs : List ℕ) (r : ℕ) (B : Bytes bs) (m : r + 68 ≤ length cs) (m' : r + 68 ≤ length bs) where
   abbrev c1 : List ℕ
   c1 = putAt 4 cs (r + 4) (wordAt 4 bs (r + 4))
 
@@ -135,17 +135,17 @@ module _ (bs cs : List ℕ) (r : ℕ) (B : Bytes bs) (m : r + 68 ≤ length cs) 
   unfolding restored
   restored-in mid i k n =
       by< i (r + 64)
-      (λ n4. copied-same bs c3 (r + 64) i B (omega (arith, m3))
+      (λ n4. copied-same bs c3 (r + 64) i B (omega (arith, m3)) (omega arith)
       (by< i (r + 16)
       (λ n3. by< i (r + 12)
-      (λ n2. copied-same bs c2 (r + 12) i B (omega (arith, m2))
+      (λ n2. copied-same bs c2 (r + 12) i B (omega (arith, m2)) (omega arith)
       (by< i (r + 8)
-      (λ n1. copied-same bs c1 (r + 8) i B (omega (arith, m1)) (copied-in bs cs (r + 4) i B (omega arith) k (omega arith)))
-      (λ k1. copied-in bs c1 (r + 8) i B (omega (arith, m1)) k1 (omega arith))))
-      (λ k2. copied-in bs c2 (r + 12) i B (omega (arith, m2)) k2 (omega arith)))
-      (λ k3. copied-same bs c2 (r + 12) i B (omega (arith, m2))
-      (copied-same bs c1 (r + 8) i B (omega (arith, m1)) (copied-same bs cs (r + 4) i B (omega arith) (mid i k3 n4))))))
-      (λ k4. copied-in bs c3 (r + 64) i B (omega (arith, m3)) k4 (omega arith))
+      (λ n1. copied-same bs c1 (r + 8) i B (omega (arith, m1)) (omega arith) (copied-in bs cs (r + 4) i B (omega arith) (omega arith) k (omega arith)))
+      (λ k1. copied-in bs c1 (r + 8) i B (omega (arith, m1)) (omega arith) k1 (omega arith))))
+      (λ k2. copied-in bs c2 (r + 12) i B (omega (arith, m2)) (omega arith) k2 (omega arith)))
+      (λ k3. copied-same bs c2 (r + 12) i B (omega (arith, m2)) (omega arith)
+      (copied-same bs c1 (r + 8) i B (omega (arith, m1)) (omega arith) (copied-same bs cs (r + 4) i B (omega arith) (omega arith) (mid i k3 n4))))))
+      (λ k4. copied-in bs c3 (r + 64) i B (omega (arith, m3)) (omega arith) k4 (omega arith))
 
   pub restored-out : (i : ℕ) → (i < r + 4) ⊎ (r + 68 ≤ i) → getD (restored bs cs r) i 0 ≡ getD cs i 0
   unfolding restored
@@ -217,9 +217,9 @@ module _ (bs : List ℕ) (s : State) (W : Loose s) (fits : end s ≤ 65536) (l :
   both-left =
       record {
         loose = C .loose;
-        long = restored-length bs (leave (leave bs p) r) r B room ∙ long;
+        long = restored-length bs (leave (leave bs p) r) r B room (omega (arith, place, l)) ∙ long;
         holds = holds-through (sheet s₂) (leave (leave bs p) r) (restored bs (leave (leave bs p) r) r)
-            (restored-length bs (leave (leave bs p) r) r B room) (C .holds)
+            (restored-length bs (leave (leave bs p) r) r B room (omega (arith, place, l))) (C .holds)
             (λ i m. by< i (r + 4) (λ a. inr (out i (inl a)))
             (λ a. by< i (r + 68)
             (λ b. let P = place in inl (ap (sheet s₂) (sym (inside i a))
@@ -227,12 +227,12 @@ module _ (bs : List ℕ) (s : State) (W : Loose s) (fits : end s ≤ 65536) (l :
             (λ b. inr (out i (inr b)))));
         kept = λ s' W' te G i m e.
             by< i (r + 4) (λ a. out i (inl a) ∙ outside s' W' te G i m e (inl a))
-            (λ a. by< i (r + 68) (λ b. restored-in bs (leave (leave bs p) r) r B room middle i a b)
+            (λ a. by< i (r + 68) (λ b. restored-in bs (leave (leave bs p) r) r B room (omega (arith, place, l)) middle i a b)
             (λ b. out i (inr b) ∙ outside s' W' te G i m e (inr b)));
       }
     where
       out : (i : ℕ) → (i < r + 4) ⊎ (r + 68 ≤ i) → getD (restored bs (leave (leave bs p) r) r) i 0 ≡ getD (leave (leave bs p) r) i 0
-      out = restored-out bs (leave (leave bs p) r) r B room
+      out = restored-out bs (leave (leave bs p) r) r B room (omega (arith, place, l))
 
       inside : (i : ℕ) → r + 4 ≤ i → r + (i / 4 * 4 - r) ≡ i / 4 * 4
       inside i a = omega (arith, place)

@@ -278,7 +278,7 @@ module _ (bs : List ℕ) (by : Bytes bs) (al : Allowed (length bs)) (rt : All (r
         (λ m. ok a _ _ (if<-no a 96 _ _ l ∙ if<-no a 168 _ _ m) (walk-ok a m al)))
 
     held-by : Holds (sheet s) bs
-    held-by = holds-from (sheet s) bs by (λ a al l. sheet-ok a al)
+    held-by = holds-from (sheet s) bs (omega (arith, al)) by (λ a al l. sheet-ok a al)
 
     pub built : SoundTo t bs
     built = record { length-allowed = al; state = s; well-formed = wf; ends = is-end; holds = held-by; is-top = refl }

@@ -16,7 +16,7 @@ use Rattle.paper.specs.Blocks.{State, block, free, held}
 use Rattle.paper.specs.Governed.{above, headerWord, height, index, largeWord, reach, sheet, smallWord, walk, zeros}
 use Rattle.paper.specs.Sheet.{byte, mapAt, write}
 use Rattle.words.specs.Choice.{if<, if=}
-use Rattle.words.specs.Words.{putAt, wordAt}
+use Rattle.words.specs.Words.{digitsAt, putAt, putDigits, wordAt}
 
 fresh : State
 fresh = record { top = 1; low = []; rest = 8; high = []; bins = λ z. [] }
@@ -41,7 +41,7 @@ listed-pool : List ℕ
 listed-pool = write (sheet listed) (replicate 632 0)
 
 fresh-accepted : inspected fresh-pool ≡ true
-unfolding fresh fresh-pool write byte mapAt wordAt sheet headerWord if= if< walk index largeWord smallWord linkWord height zeros reach above seek
+unfolding fresh fresh-pool write byte mapAt digitsAt putDigits wordAt sheet headerWord if= if< walk index largeWord smallWord linkWord height zeros reach above seek
     first prevIn nextIn followed cleared smalls chain lists scanned inspect inspected allowed follow scan markAt bitAt putBitAt putBit
 fresh-accepted = refl
 
@@ -52,7 +52,7 @@ listed-tried :
     ∷ inspected (putAt 4 listed-pool 520 4) ∷ inspected (putAt 4 listed-pool 320 4294967152) ∷ inspected (putAt 4 listed-pool 0 8)
     ∷ inspected (putAt 4 listed-pool 60 1) ∷ inspected (putAt 4 listed-pool 40 0) ∷ []
     ≡ true ∷ false ∷ false ∷ false ∷ false ∷ false ∷ false ∷ false ∷ false ∷ []
-unfolding listed listed-bins listed-pool write byte mapAt wordAt putAt sheet headerWord if= if< walk index largeWord smallWord linkWord height zeros
+unfolding listed listed-bins listed-pool write byte mapAt digitsAt putDigits wordAt putAt sheet headerWord if= if< walk index largeWord smallWord linkWord height zeros
     reach above seek first prevIn nextIn followed cleared smalls chain lists scanned inspect inspected allowed follow scan markAt bitAt putBitAt
     putBit
 listed-tried = refl

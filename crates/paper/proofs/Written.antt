@@ -72,7 +72,7 @@ write-unique g bs cs l h k =
 pub holds-word : (g : Sheet) (bs : List ℕ) (a v : ℕ) → Holds g bs → a % 4 ≡ 0 → a + 4 ≤ length bs → v < 256 ^ 4 → g a ≡ some v → wordAt 4 bs a ≡ v
 unfolding Holds byte
 holds-word g bs a v h al l s e =
-    word-octets 4 bs a v s
+    word-octets 4 bs a v l s
     (λ j b. ap (λ (t : List ℕ). getD t (a + j) 0) (sym h) ∙ getD-write g bs (a + j) (omega arith)
     ∙ ap (λ (o : Option ℕ). pick o ((a + j) % 4) (getD bs (a + j) 0)) (ap g (omega arith) ∙ e)
     ∙ ap (octet v) (omega arith))
@@ -118,11 +118,12 @@ pub ok-from : (bs : List ℕ) (a : ℕ) (o : Option ℕ) → ((v : ℕ) → o �
 ok-from bs a none h = tt
 ok-from bs a (some v) h = h v refl
 
-pick-ok : (bs : List ℕ) (i : ℕ) (o : Option ℕ) → Bytes bs → Ok bs (i / 4 * 4) o → getD bs i 0 ≡ pick o (i % 4) (getD bs i 0)
-pick-ok bs i none h k = refl
-pick-ok bs i (some v) h k = ap (λ (j : ℕ). getD bs j 0) (omega arith) ∙ sym (octet-word 4 bs (i / 4 * 4) (i % 4) h (omega arith))
+pick-ok : (bs : List ℕ) (i : ℕ) (o : Option ℕ) → i / 4 * 4 + 4 ≤ length bs → Bytes bs → Ok bs (i / 4 * 4) o → getD bs i 0 ≡ pick o (i % 4) (getD bs i 0)
+pick-ok bs i none l h k = refl
+pick-ok bs i (some v) l h k = ap (λ (j : ℕ). getD bs j 0) (omega arith) ∙ sym (octet-word 4 bs (i / 4 * 4) (i % 4) l h (omega arith))
     ∙ ap (λ (w : ℕ). octet w (i % 4)) k
 
-pub holds-from : (g : Sheet) (bs : List ℕ) → Bytes bs → ((a : ℕ) → a % 4 ≡ 0 → a < length bs → Ok bs a (g a)) → Holds g bs
+pub holds-from : (g : Sheet) (bs : List ℕ) → length bs % 4 ≡ 0 → Bytes bs → ((a : ℕ) → a % 4 ≡ 0 → a < length bs → Ok bs a (g a)) → Holds g bs
 unfolding Holds byte
-holds-from g bs h k = sym (is-write g bs bs refl (λ i l. pick-ok bs i (g (i / 4 * 4)) h (k (i / 4 * 4) (omega arith) (omega arith))))
+holds-from g bs m h k =
+    sym (is-write g bs bs refl (λ i l. pick-ok bs i (g (i / 4 * 4)) (omega arith) h (k (i / 4 * 4) (omega arith) (omega arith))))

@@ -48,7 +48,7 @@ pub put-over-8 : (g : Sheet) (bs : List ℕ) (a v : ℕ) → a % 4 ≡ 0 → a +
     → putAt 8 (write g bs) a v ≡ write (over (a + 4) 0 (over a v g)) bs
 put-over-8 g bs a v al l h =
     let z : v / 4294967296 ≡ 0 = omega arith in
-    put-add 4 4 (write g bs) a v ∙ ap (λ (k : ℕ). putAt 4 (putAt 4 (write g bs) a v) (a + 4) k) z
+    put-add 4 4 (write g bs) a v (omega (arith, length-write g bs)) ∙ ap (λ (k : ℕ). putAt 4 (putAt 4 (write g bs) a v) (a + 4) k) z
     ∙ ap (λ (t : List ℕ). putAt 4 t (a + 4) 0) (put-over g bs a v al (omega arith))
     ∙ put-over (over a v g) bs (a + 4) 0 (omega arith) (omega arith)
 

@@ -1,43 +1,26 @@
-// Little-endian words in lent bytes, total: a byte past the end reads as 0 and is not written.
+// Little-endian words in lent bytes, total: a word that is not wholly in them reads as 0 and is not written.
 // So every function above is total too, whatever bytes it meets.
 ghost use mathlib.Core.Path.{_≡_};
 ghost use Prim.Native.Nat.{_+_, _<_};
-ghost use lib.ListN.{getD, set};
 ghost use Rattle.words.specs.Sums.{plus as plus-of, minus as minus-of};
 ghost use Rattle.words.specs.Words.{wordAt, putAt};
 
-// The byte at `at`, and 0 past the end.
-pub fn byte(s: &[u8], at: usize) -> u8
-    ensures { λ r. ⌜ r ≡ getD (now (s .entry)) at 0 ⌝ }
-{
-    if at < s.len() { s[at] } else { 0 }
-}
-
-// Stores a byte, unless `at` is past the end.
-pub fn put_byte(s: &mut [u8], at: usize, v: u8)
-    ensures { λ _. ⌜ now (s .exit) ≡ set (now (s .entry)) at v ⌝ }
-{
-    if at < s.len() {
-        s[at] = v;
-    }
-}
-
-// The word of 4 bytes at `at`. The common case is four plain reads, which the machine does as one; the last bytes of the buffer
-// have a function of their own, for else the optimizer shares parts of the two ways and does not join the reads.
+// The word of 4 bytes at `at`: four plain reads, which the machine does as one. `n - 4` is the same for every read of a pool, so
+// a read costs one test.
 pub fn get32(s: &[u8], at: usize) -> u32
     ensures { λ r. ⌜ r ≡ wordAt 4 (now (s .entry)) at ⌝ }
 {
     let n = s.len();
     if n < 4 {
-        return get_last(s, at);
+        return 0;
     }
     if n - 4 < at {
-        return get_last(s, at);
+        return 0;
     }
     let a1 = at + 1;
     let a2 = a1 + 1;
     let a3 = a2 + 1;
-    wide(s[at]) + 256 * (wide(s[a1]) + 256 * (wide(s[a2]) + 256 * wide(s[a3])))
+    wide(s[at]) + 256 * wide(s[a1]) + 65536 * wide(s[a2]) + 16777216 * wide(s[a3])
 }
 
 // A byte as a word; a cast in a function of its own asks no proof at each read.
@@ -47,31 +30,15 @@ fn wide(b: u8) -> u32
     b as u32
 }
 
-// The word of 4 bytes at `at`, wherever that is.
-fn get_last(s: &[u8], at: usize) -> u32
-    ensures { λ r. ⌜ r ≡ wordAt 4 (now (s .entry)) at ⌝ }
-{
-    if s.len() <= at {
-        return 0;
-    }
-    let a1 = at + 1;
-    let a2 = a1 + 1;
-    let a3 = a2 + 1;
-    wide(byte(s, at))
-        + 256 * (wide(byte(s, a1)) + 256 * (wide(byte(s, a2)) + 256 * wide(byte(s, a3))))
-}
-
-// Stores the word of 4 bytes at `at`. The common case is four plain stores, which the machine does as one, as in get32.
+// Stores the word of 4 bytes at `at`: four plain stores, which the machine does as one.
 pub fn put32(s: &mut [u8], at: usize, v: u32)
     ensures { λ _. ⌜ now (s .exit) ≡ putAt 4 (now (s .entry)) at v ⌝ }
 {
     let n = s.len();
     if n < 4 {
-        put_last(s, at, v);
         return;
     }
     if n - 4 < at {
-        put_last(s, at, v);
         return;
     }
     let a1 = at + 1;
@@ -86,30 +53,15 @@ pub fn put32(s: &mut [u8], at: usize, v: u32)
     s[a3] = (v3 % 256) as u8;
 }
 
-// Stores the word of 4 bytes at `at`, wherever that is.
-fn put_last(s: &mut [u8], at: usize, v: u32)
-    ensures { λ _. ⌜ now (s .exit) ≡ putAt 4 (now (s .entry)) at v ⌝ }
-{
-    if s.len() <= at {
-        return;
-    }
-    let a1 = at + 1;
-    let a2 = a1 + 1;
-    let a3 = a2 + 1;
-    let v1 = v / 256;
-    let v2 = v1 / 256;
-    let v3 = v2 / 256;
-    put_byte(s, at, (v % 256) as u8);
-    put_byte(s, a1, (v1 % 256) as u8);
-    put_byte(s, a2, (v2 % 256) as u8);
-    put_byte(s, a3, (v3 % 256) as u8);
-}
-
 // The word of 8 bytes at `at`.
 pub fn get64(s: &[u8], at: usize) -> u64
     ensures { λ r. ⌜ r ≡ wordAt 8 (now (s .entry)) at ⌝ }
 {
-    if s.len() <= at {
+    let n = s.len();
+    if n < 8 {
+        return 0;
+    }
+    if n - 8 < at {
         return 0;
     }
     get32(s, at) as u64 + 4294967296 * (get32(s, at + 4) as u64)
@@ -119,7 +71,11 @@ pub fn get64(s: &[u8], at: usize) -> u64
 pub fn put64(s: &mut [u8], at: usize, v: u64)
     ensures { λ _. ⌜ now (s .exit) ≡ putAt 8 (now (s .entry)) at v ⌝ }
 {
-    if s.len() <= at {
+    let n = s.len();
+    if n < 8 {
+        return;
+    }
+    if n - 8 < at {
         return;
     }
     put32(s, at, (v % 4294967296) as u32);
