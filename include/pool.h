@@ -1,5 +1,6 @@
 /* A memory pool for records that must not be lost, in a buffer of yours. Every call is proved to answer as written here, whatever
-   bytes the buffer has (docs/PROMISES.md). Build the library with `rt staticlib board`, and link target/staticlib/libboard.a.
+   bytes the buffer has (docs/PROMISES.md). Build the library with `rt staticlib board`, and link target/staticlib/libboard.a;
+   of the C library it calls memset alone.
 
        static unsigned char pool[1024];
        uint64_t r = pool_lay_out(pool, sizeof pool);
@@ -31,8 +32,8 @@
    What you owe, since C cannot check it:
    - `pool` points to n bytes of one object. pool_lay_out, pool_take and pool_give_back write them, the others only read.
      They have been written before (any value will do), and `pool` needs no alignment.
-   - `figures` and `counts` point to `count` numbers that you may write, that have been written before, and that share no byte
-     with the pool.
+   - `figures` and `counts` point to `count` numbers of one array of uint32_t, aligned as such, that have been written before
+     and that share no byte with the pool.
    - Nobody else writes these bytes during the call; while a call writes, nobody else reads them.
    - Of an empty pool or list (n = 0, count = 0) nothing is read or written, and any pointer will do, NULL too.
    No other rule: any n, count, size, offset and bytes get an answer. What you write into a payload that you hold never harms
