@@ -320,7 +320,7 @@ module _ (bs : List ℕ) (s : State) (W : WellFormed s) (l : length bs ≡ end s
                     (
                       cleared-yes bs 12 4 112 (λ i b. ap (wordAt 4 bs) (omega arith)
                           ∙ false-zero (16 + 4 * i) (omega arith) (omega arith) (omega arith) (omega arith)),
-                      tt,
+                      (omega arith, tt),
                     ),
                   ),
                 ),

@@ -42,7 +42,11 @@ module _ (bs : List ℕ) where
   abbrev pub rest-tests : List Test
   rest-tests = rest-between R E
 
-  -- the header's fixed words, the high halves among them, and the false block
+  -- the high halves of the header's words, and the false block's words between its level word and its chain word
+  abbrev pub twelve-tests : List Test
+  twelve-tests = holds (cleared 12 8 4) ∷ holds (cleared 12 4 (false-block + 16)) ∷ []
+
+  -- the header's fixed words, the high halves among them, and the false block; and there is room for them
   abbrev pub false-tests : List Test
   false-tests =
       same (wordAt 4 bs false-word-at) false-block
@@ -52,6 +56,7 @@ module _ (bs : List ℕ) where
       ∷ holds (cleared 12 8 4)
       ∷ holds (cleared 3 4 false-block)
       ∷ holds (cleared 12 4 (false-block + 16))
+      ∷ less (blocks-at - 1) (length bs)
       ∷ []
 
 module _ {M : Type 0} (O : MarkSet M) (bs : List ℕ) where

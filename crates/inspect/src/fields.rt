@@ -3,7 +3,7 @@ ghost use mathlib.Core.Path.{_≡_};
 ghost use lib.Dec.{eqb};
 ghost use Rattle.heads.specs.Links.{linkWord, followed};
 ghost use Rattle.inspect.specs.Tests.{pass};
-ghost use Rattle.inspect.specs.Inspection.{rest-between, false-tests, cleared as cleared-of};
+ghost use Rattle.inspect.specs.Inspection.{rest-between, twelve-tests, false-tests};
 use paper::BLOCKS;
 use paper::CHAIN;
 use paper::FALSE_BLOCK;
@@ -36,9 +36,13 @@ pub fn remainder_ok(pool: &[u8], a: u32, b: u32) -> bool
 }
 
 // The header's second word, the high half of all twelve, and the false block: zero, but for its level word and its chain word.
+// The first test is for the machine: with it, no place below, which are all constants, asks one.
 pub fn false_block_ok(pool: &[u8]) -> bool
     ensures { λ r. ⌜ r ≡ pass (false-tests (now (pool .entry))) ⌝ }
 {
+    if pool.len() < BLOCKS as usize {
+        return false;
+    }
     if words::get32(pool, FALSE_WORD) != FALSE_BLOCK {
         return false;
     }
@@ -51,13 +55,37 @@ pub fn false_block_ok(pool: &[u8]) -> bool
     if words::field(pool, FALSE_BLOCK, CHAIN + 4) != 0 {
         return false;
     }
-    if !halves_cleared(pool) {
+    if words::field(pool, FALSE_BLOCK, 0) != 0 {
         return false;
     }
-    if !low_cleared(pool) {
+    if words::field(pool, FALSE_BLOCK, 4) != 0 {
         return false;
     }
-    high_cleared(pool)
+    if words::field(pool, FALSE_BLOCK, 8) != 0 {
+        return false;
+    }
+    twelve_zero(pool)
+}
+
+// The high halves of the header's twelve words, and the twelve words between the false block's level word and its chain word.
+fn twelve_zero(pool: &[u8]) -> bool
+    ensures { λ r. ⌜ r ≡ pass (twelve-tests (now (pool .entry))) ⌝ }
+{
+    let mut left: u32 = 12;
+    let mut half: usize = 4;
+    let mut word: usize = 112;
+    while left != 0 {
+        if words::get32(pool, half) != 0 {
+            return false;
+        }
+        if words::get32(pool, word) != 0 {
+            return false;
+        }
+        left -= 1;
+        half += 8;
+        word += 4;
+    }
+    true
 }
 
 // The word w at q is a distance as it is written; another word could lead to 0, which is no block.
@@ -68,80 +96,4 @@ pub fn link_ok(q: u32, w: u32) -> bool
         return true;
     }
     heads::follow(q, w) != 0
-}
-
-// k words from `from` on, st apart, are 0. Past the end all are.
-fn cleared(pool: &[u8], k: u32, st: u32, from: u32) -> bool
-    ensures { λ r. ⌜ r ≡ cleared-of (now (pool .entry)) k st from ⌝ }
-{
-    let mut left = k;
-    let mut at = from as usize;
-    while left != 0 {
-        if pool.len() <= at {
-            return true;
-        }
-        if words::get32(pool, at) != 0 {
-            return false;
-        }
-        left -= 1;
-        at += st as usize;
-    }
-    true
-}
-
-// The high halves of the header's words are 0. In a pool with room for them the places are constants, and ask no test.
-fn halves_cleared(pool: &[u8]) -> bool
-    ensures { λ r. ⌜ r ≡ cleared-of (now (pool .entry)) 12 8 4 ⌝ }
-{
-    if pool.len() < BLOCKS as usize {
-        return cleared(pool, 12, 8, 4);
-    }
-    let mut left: u32 = 12;
-    let mut at: usize = 4;
-    while left != 0 {
-        if words::get32(pool, at) != 0 {
-            return false;
-        }
-        left -= 1;
-        at += 8;
-    }
-    true
-}
-
-// The false block's words below its level word are 0.
-fn low_cleared(pool: &[u8]) -> bool
-    ensures { λ r. ⌜ r ≡ cleared-of (now (pool .entry)) 3 4 96 ⌝ }
-{
-    if pool.len() < BLOCKS as usize {
-        return cleared(pool, 3, 4, 96);
-    }
-    let mut left: u32 = 3;
-    let mut at: usize = 96;
-    while left != 0 {
-        if words::get32(pool, at) != 0 {
-            return false;
-        }
-        left -= 1;
-        at += 4;
-    }
-    true
-}
-
-// The false block's words between its level word and its chain word are 0.
-fn high_cleared(pool: &[u8]) -> bool
-    ensures { λ r. ⌜ r ≡ cleared-of (now (pool .entry)) 12 4 112 ⌝ }
-{
-    if pool.len() < BLOCKS as usize {
-        return cleared(pool, 12, 4, 112);
-    }
-    let mut left: u32 = 12;
-    let mut at: usize = 112;
-    while left != 0 {
-        if words::get32(pool, at) != 0 {
-            return false;
-        }
-        left -= 1;
-        at += 4;
-    }
-    true
 }

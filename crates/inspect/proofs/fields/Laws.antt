@@ -10,11 +10,10 @@ use borrow.Author.Tests.{eq-eqb, ne-eqb, eqb-true, not-false}
 use Rattle.words.specs.Choice.{if=-yes, if=-no, by=}
 use Rattle.words.specs.Sums.{plus, minus}
 use Rattle.words.specs.Words.{wordAt}
-use Rattle.words.proofs.Laws.{word-out}
 use Rattle.heads.specs.Links.{linkWord, followed}
 use Rattle.inspect.specs.Tests.{pass}
-use Rattle.inspect.specs.Inspection.{cleared, rest-between, false-tests}
-use Rattle.inspect.proofs.Guards.{pass-is, passed}
+use Rattle.inspect.specs.Inspection.{cleared, rest-between, twelve-tests, false-tests}
+use Rattle.inspect.proofs.Guards.{guard-inv, guard-yes, no-both, pass-is}
 
 -- ---- links
 
@@ -52,11 +51,6 @@ unfolding cleared
 clear-end s zero st at e = refl
 clear-end s (suc n) st at e = absurd (omega arith)
 
-clear-out : (s : List ℕ) (n st at : ℕ) → length s ≤ at → cleared s n st at ≡ true
-unfolding cleared
-clear-out s zero st at l = refl
-clear-out s (suc n) st at l = if=-yes (wordAt 4 s at) 0 _ _ (word-out 4 s at l) ∙ clear-out s n st (at + st) (omega arith)
-
 clear-bad : (s : List ℕ) (n st at : ℕ) → (n ≡ 0 → ⊥) → (wordAt 4 s at ≡ 0 → ⊥) → cleared s n st at ≡ false
 unfolding cleared
 clear-bad s zero st at e h = absurd (e refl)
@@ -69,9 +63,6 @@ clear-on s n st at h = if=-yes (wordAt 4 s at) 0 _ _ h
 module _ {s : List ℕ} {k st from n at : ℕ} (g : Clearing s k st from n at) where
   pub is-cleared : n ≡ 0 → true ≡ cleared s k st from
   is-cleared e = sym (g .all ∙ clear-end s n st at e)
-
-  pub past-end : length s ≤ at → true ≡ cleared s k st from
-  past-end l = sym (g .all ∙ clear-out s n st at l)
 
   pub not-cleared : {w : ℕ} → (n ≡ 0 → ⊥) → w ≡ wordAt 4 s at → (w ≡ 0 → ⊥) → false ≡ cleared s k st from
   not-cleared e h i = sym (g .all ∙ clear-bad s n st at e (λ j. i (h ∙ j)))
@@ -87,10 +78,14 @@ rest-is s a b {w} h1 h2 h3 h4 h5 h6 ew =
     pass-is (rest-between s a b) (eqb w (4 * (b - a) + 2))
     (λ h. (omega arith, (omega arith, (omega arith, (h5, (h6, (sym ew ∙ eqb-true _ _ h, tt))))))) (λ t. eq-eqb _ _ (ew ∙ t .1 .1 .1 .1 .1 .0))
 
-pub false-is : (s : List ℕ) {w1 w2 w3 w4 : ℕ} {b c d e : Bool} → w1 ≡ wordAt 4 s 8 → w1 ≡ 96 → w2 ≡ wordAt 4 s 108 → w2 ≡ 1
+pub twelve-is : (s : List ℕ) → true ≡ cleared s 12 8 4 → true ≡ cleared s 12 4 112 → true ≡ pass (twelve-tests s)
+twelve-is s a b = pass-is (twelve-tests s) true (λ h. (sym a, (sym b, tt))) (λ t. refl)
+
+pub false-is : (s : List ℕ) {w1 w2 w3 w4 : ℕ} {b e : Bool} → 168 ≤ length s → w1 ≡ wordAt 4 s 8 → w1 ≡ 96 → w2 ≡ wordAt 4 s 108 → w2 ≡ 1
     → w3 ≡ wordAt 4 s 160 → b ≡ eqb w3 (linkWord 96 (followed 96 w3)) → not b ≡ false → w4 ≡ wordAt 4 s 164 → w4 ≡ 0
-    → c ≡ cleared s 12 8 4 → not c ≡ false → d ≡ cleared s 3 4 96 → not d ≡ false → e ≡ cleared s 12 4 112 → e ≡ pass (false-tests s)
-false-is s {e = e} a1 b1 a2 b2 a3 a3' b3 a4 b4 a5 b5 a6 b6 a7 =
+    → Clearing s 3 4 96 0 108 → e ≡ pass (twelve-tests s) → e ≡ pass (false-tests s)
+false-is s {e = e} r a1 b1 a2 b2 a3 a3' b3 a4 b4 a6 a7 =
     pass-is (false-tests s) e
-    (λ h. (sym a1 ∙ b1, (sym a2 ∙ b2, (link-true 96 a3' a3 (not-false _ b3), (sym a4 ∙ b4, (passed a5 b5, (passed a6 b6, (sym a7 ∙ h, tt))))))))
-    (λ t. a7 ∙ t .1 .1 .1 .1 .1 .1 .0)
+    (λ h. let g = guard-inv (twelve-tests s) false true true no-both (sym a7 ∙ h) .0 in
+    (sym a1 ∙ b1, (sym a2 ∙ b2, (link-true 96 a3' a3 (not-false _ b3), (sym a4 ∙ b4, (g .0, (sym (is-cleared a6 refl), (g .1 .0, (omega arith, tt)))))))))
+    (λ t. a7 ∙ guard-yes (twelve-tests s) false true (t .1 .1 .1 .1 .0, (t .1 .1 .1 .1 .1 .1 .0, tt)))
