@@ -13,7 +13,7 @@ ghost use Prim.Native.Nat.{suc};
 ghost use lib.Dec.{ltb};
 ghost use Rattle.inspect.specs.Tests.{pass};
 ghost use Rattle.inspect.specs.MarkSets.{bitMarks, markAt};
-ghost use Rattle.inspect.specs.Lists.{large-words, first-words, followSmall, followLarge, smalls, chain, lists};
+ghost use Rattle.inspect.specs.Lists.{large-tests, first-tests, followSmall, followLarge, smalls, chain, lists};
 ghost use Rattle.inspect.specs.Contract.{to-left};
 
 pub struct Left {
@@ -63,19 +63,17 @@ fn large_bins(pool: &[u8], m: &mut [u64], k: usize, f0: u32) -> bool
     let mut y: u32 = 64;
     let mut f = f0;
     while f != 0 {
-        let w = words::get32(pool, f as usize);
-        let u = words::field(pool, f, CHAIN);
-        if !first_ok(y, f, w, words::field(pool, f, LEVEL), u) {
+        if !first_ok(pool, y, f) {
             return false;
         }
-        let z = w / 4;
+        let z = words::get32(pool, f as usize) / 4;
         let r = follow_large(pool, m, left, z, f);
         if !r.ok {
             return false;
         }
         left = r.left;
         y = z;
-        f = heads::follow(f, u);
+        f = heads::follow(f, words::field(pool, f, CHAIN));
     }
     left == 0
 }
@@ -117,21 +115,13 @@ fn follow_large(pool: &[u8], m: &mut [u64], k: usize, z: u32, first: u32) -> Lef
         if !marked(m, q) {
             return Left { ok: false, left: 0 };
         }
-        let u = words::field(pool, q, NEXT);
-        if !large_ok(
-            z,
-            p,
-            q,
-            words::get32(pool, q as usize),
-            words::field(pool, q, PREVIOUS),
-            u,
-        ) {
+        if !large_ok(pool, z, p, q) {
             return Left { ok: false, left: 0 };
         }
         marks::take_out(m, (q / 8) as usize);
         left -= 1;
         p = q;
-        q = heads::follow(q, u);
+        q = heads::follow(q, words::field(pool, q, NEXT));
     }
     Left { ok: true, left }
 }
@@ -146,28 +136,28 @@ fn marked(m: &[u64], q: u32) -> bool
     false
 }
 
-// The member q after p of the bin of size z, by its head w, its link back v and its link on u.
-fn large_ok(z: u32, p: u32, q: u32, w: u32, v: u32, u: u32) -> bool
-    ensures { λ r. ⌜ r ≡ pass (large-words z p q w v u) ⌝ }
+// The member q after p of the bin of size z: its head, its link back and its link on, each read when the one before has passed.
+fn large_ok(pool: &[u8], z: u32, p: u32, q: u32) -> bool
+    ensures { λ r. ⌜ r ≡ pass (large-tests (now (pool .entry)) z p q) ⌝ }
 {
-    if w / 4 != z {
+    if words::get32(pool, q as usize) / 4 != z {
         return false;
     }
-    if v != heads::link_word(q, p) {
+    if words::field(pool, q, PREVIOUS) != heads::link_word(q, p) {
         return false;
     }
-    link_ok(q, u)
+    link_ok(q, words::field(pool, q, NEXT))
 }
 
-// The first block f of the bin after size y, by its head w, its level word v and its chain word u.
-fn first_ok(y: u32, f: u32, w: u32, v: u32, u: u32) -> bool
-    ensures { λ r. ⌜ r ≡ pass (first-words y f w v u) ⌝ }
+// The first block f of the bin after size y: its head, its level word and its chain word.
+fn first_ok(pool: &[u8], y: u32, f: u32) -> bool
+    ensures { λ r. ⌜ r ≡ pass (first-tests (now (pool .entry)) y f) ⌝ }
 {
-    if w / 4 <= y {
+    if words::get32(pool, f as usize) / 4 <= y {
         return false;
     }
-    if v != 1 {
+    if words::field(pool, f, LEVEL) != 1 {
         return false;
     }
-    link_ok(f, u)
+    link_ok(f, words::field(pool, f, CHAIN))
 }

@@ -10,9 +10,8 @@ use borrow.Author.Tests.{eq-eqb, ne-eqb, not-false, not-true}
 use Rattle.heads.specs.Links.{followed}
 use Rattle.inspect.proofs.Guards.{guard-fail, guard-inv, guard-pass, passed}
 use Rattle.inspect.proofs.MarkLists.{lost-left}
-use Rattle.inspect.proofs.lists.Members.{first-at}
 use Rattle.inspect.specs.Contract.{pick-left, to-left}
-use Rattle.inspect.specs.Lists.{Left, chain, first-tests, first-words, follow, if-left, large-tests, left, lists, lost, nextBin, nextLarge, smalls}
+use Rattle.inspect.specs.Lists.{Left, chain, first-tests, follow, if-left, large-tests, left, lists, lost, nextBin, nextLarge, smalls}
 use Rattle.inspect.specs.MarkSets.{bitMarks, markAt}
 use Rattle.inspect.specs.Tests.{Test, less, pass}
 use Rattle.marks.specs.Marks.{putBitAt}
@@ -80,21 +79,20 @@ module _ {s m₀ : List ℕ} {k f0 : ℕ} {m : List ℕ} {n y f : ℕ} (g : Chai
   pub chain-done : f ≡ 0 → eqb n 0 ≡ All-bins
   chain-done e = sym (g .all ∙ chain-end s m (g .fuel) n y f e (g .enough))
 
-  -- the words of the first block f, and what its tests answered
-  module _ (ne : f ≡ 0 → ⊥) {w u v : ℕ} (ew : w ≡ wordAt 4 s f) (eu : u ≡ wordAt 4 s (f + 64)) (ev : v ≡ wordAt 4 s (f + 12)) {b : Bool}
-      (eb : b ≡ pass (first-words y f w v u)) where
+  -- what the tests of the first block f answered
+  module _ (ne : f ≡ 0 → ⊥) {b : Bool} (eb : b ≡ pass (first-tests s y f)) where
     pub chain-bad : not b ≡ true → false ≡ All-bins
-    chain-bad i = sym (g .all ∙ chain-unfit s m (g .fuel) n y f ne (sym (first-at s y f ew ev eu eb) ∙ not-true _ i))
+    chain-bad i = sym (g .all ∙ chain-unfit s m (g .fuel) n y f ne (sym eb ∙ not-true _ i))
 
-    -- its list, which was followed
-    module _ (i : not b ≡ false) (r : Answer) (m' : List ℕ) (ex : to-left r m' ≡ follow bitMarks (large-tests s (w / 4)) (nextLarge s) n m 0 f) where
+    -- its head, and its list, which was followed
+    module _ (i : not b ≡ false) {w : ℕ} (ew : w ≡ wordAt 4 s f) (r : Answer) (m' : List ℕ) (ex : to-left r m' ≡ follow bitMarks (large-tests s (w / 4)) (nextLarge s) n m 0 f) where
       abbrev on-bins : Left (List ℕ) → Bool
       on-bins x = if-left x false (λ k' ms'. chain bitMarks s (g .fuel - 1) k' ms' (w / 4) (nextBin s f))
 
       chain-step : All-bins ≡ on-bins (to-left r m')
       chain-step =
           g .all ∙ ap (λ (x : ℕ). chain bitMarks s x n m y f) (omega (arith, g .enough))
-          ∙ chain-next s m (g .fuel - 1) n y f (w / 4) ne (passed (first-at s y f ew ev eu eb) i) (ap (λ (x : ℕ). x / 4) ew) (to-left r m') ex
+          ∙ chain-next s m (g .fuel - 1) n y f (w / 4) ne (passed eb i) (ap (λ (x : ℕ). x / 4) ew) (to-left r m') ex
 
       pub chain-lost : not (r .ok) ≡ true → false ≡ All-bins
       chain-lost j = sym (chain-step ∙ ap (λ (c : Bool). on-bins (pick-left c (r .left) m')) (not-true (r .ok) j))
@@ -104,9 +102,9 @@ module _ {s m₀ : List ℕ} {k f0 : ℕ} {m : List ℕ} {n y f : ℕ} (g : Chai
           follow-lt (large-tests s (w / 4)) (nextLarge s) n m 0 f (r .left) m' ne
           (sym ex ∙ ap (λ (c : Bool). pick-left c (r .left) m') (not-false (r .ok) h))
 
-      pub chain-on : {t : ℕ} → not (r .ok) ≡ false → length m' ≡ length m → t ≡ followed f u → t < 4294967296
+      pub chain-on : {t u : ℕ} → not (r .ok) ≡ false → length m' ≡ length m → u ≡ wordAt 4 s (f + 64) → t ≡ followed f u → t < 4294967296
           → Chained s m₀ k f0 m' (r .left) (w / 4) t
-      chain-on {t} j lm et ts =
+      chain-on {t} j lm eu et ts =
           record {
             long = lm ∙ g .long;
             small = ts;

@@ -30,8 +30,7 @@ word-found c =
 goes-on : tie.Need-loop-again Inv-loop μ-loop
 goes-on c =
     let i = c .before .before .before .before .before .loop .inv in
-    let n = c .before .before .before .before .loop-test .taken in
-    (
+    let n = c .before .before .before .before .loop-test .taken in (
       (clears (i .0 .0) n (c .before .before .before .get32 .ensures) (c .before .before .if1 .left), clears (i .0 .1) n (c .before .get322 .ensures) (c .if2 .left)),
       (omega (arith, i .1, n), omega (arith, i .1, n)),
     )
