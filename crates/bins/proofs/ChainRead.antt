@@ -105,7 +105,7 @@ module _ (s : State) (W : Loose s) (size : ℕ) (at : Place) (F : Found s size a
       (omega (arith, start s W (m .0) (at .first) i)) (λ u a b. if=-yes (first (s .bins u)) 0 _ _ (m .3 u a b))
       ∙ here ∙ same
 
-  pub found-no-smallest : at .first ≡ 0 → smallestBin s size ≡ 0
+  pub found-no-smallest : at .first ≡ 0 → (least : ℕ) → size ≤ least → smallestBin s least ≡ 0
   unfolding smallestBin
-  found-no-smallest e =
-      seek-zero (λ (u : ℕ). if= (first (s .bins u)) 0 0 u) (end s) size (λ u a. if=-yes (first (s .bins u)) 0 _ _ (found-none e u a))
+  found-no-smallest e least l =
+      seek-zero (λ (u : ℕ). if= (first (s .bins u)) 0 0 u) (end s) least (λ u a. if=-yes (first (s .bins u)) 0 _ _ (found-none e u (omega arith)))

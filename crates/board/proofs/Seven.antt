@@ -7,9 +7,9 @@ use native.Mathlib.Omega.{arith}
 use lib.ListN.{length, set}
 use Rattle.paper.specs.declared.Figures.{Figures}
 use Rattle.paper.specs.declared.Answer.the-variants.{Done, Refused}
-use Rattle.paper.specs.Answers.{out, not-53}
+use Rattle.paper.specs.Answers.{out, not-53, sevenOf}
 use Rattle.words.specs.Choice.{if=-yes, if=-no}
-use Rattle.board.specs.Heard.{seven, counted}
+use Rattle.board.specs.Heard.{counted}
 
 abbrev pub stored : Figures → List ℕ → List ℕ
 stored f xs =
@@ -21,7 +21,7 @@ stored f xs =
     let s5 = set s4 5 (f .«free_word») in
     set s5 6 (f .largest)
 
-seven-stored : (f : Figures) (xs : List ℕ) → length xs ≡ 7 → stored f xs ≡ seven f
+seven-stored : (f : Figures) (xs : List ℕ) → length xs ≡ 7 → stored f xs ≡ sevenOf f
 seven-stored f (a ∷ b ∷ c ∷ d ∷ e ∷ g ∷ h ∷ []) n = refl
 seven-stored f (a ∷ b ∷ c ∷ d ∷ e ∷ g ∷ h ∷ i ∷ xs) n = absurd (omega (arith, n))
 seven-stored f (a ∷ b ∷ c ∷ d ∷ e ∷ g ∷ []) n = absurd (omega (arith, n))

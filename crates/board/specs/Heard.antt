@@ -1,6 +1,6 @@
 -- What C hears of a call: one number of 64 bits, with the refusal's number in its upper half and the value in its lower half; and what is left
 -- in the lent buffer or list. The calls' meaning is the pool's own (crate pool, specs/Calls); only the list of seven figures is added here.
-use mathlib.Core.List.{List, [], _∷_}
+use mathlib.Core.List.{List}
 use Prim.Native.Nat.{ℕ, _/_, _%_}
 use lib.ListN.{length}
 use Rattle.words.specs.Choice.{if=}
@@ -9,7 +9,7 @@ use Rattle.paper.specs.declared.Answer.the-variants.{Done, Refused}
 use Rattle.paper.specs.declared.Figures.{Figures}
 use Rattle.paper.specs.declared.Tally.{Tally}
 use Rattle.paper.specs.declared.Tally.the-variants.{Counted, Refused as Uncounted}
-use Rattle.paper.specs.Answers.{Out, out, number, value, not-53}
+use Rattle.paper.specs.Answers.{Out, out, number, sevenOf, value, not-53}
 use Rattle.pool.specs.Calls.{figures as tallyOf}
 
 -- ---- one number
@@ -40,14 +40,9 @@ leaves o = left (heard (o .answer)) (o .after)
 
 -- ---- the figures in a list
 
--- "Held blocks; held bytes (block sizes); free small blocks; free large blocks; remainder size; free word; largest grant."
-abbrev pub seven : Figures → List ℕ
-seven f =
-    f .«held_blocks» ∷ f .«held_bytes» ∷ f .«free_small» ∷ f .«free_large» ∷ f .remainder ∷ f .«free_word» ∷ f .largest ∷ []
-
 -- a list of another length is refused as the class count refuses one that has not 53 counters
 unfoldable pub counted : Figures → List ℕ → Out
-counted f xs = if= (length xs) 7 (out (Done (f .«held_blocks»)) (seven f)) (out (Refused not-53) xs)
+counted f xs = if= (length xs) 7 (out (Done (f .«held_blocks»)) (sevenOf f)) (out (Refused not-53) xs)
 
 abbrev pub tallied : Tally → List ℕ → Out
 tallied (Counted f) xs = counted f xs

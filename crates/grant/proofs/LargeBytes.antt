@@ -47,7 +47,7 @@ module _ (s : State) (bs : List ℕ) (S : Stands s bs) (b : ℕ) (large : 72 ≤
     larger-at at F =
         by= (at .first) 0
         (λ e. if=-yes (at .first) 0 _ _ e ∙ cutLow-bytes s bs S b (omega arith) eights
-        ∙ ap (λ (r : Result). leaves r bs) (sym (if=-yes (smallestBin s (b + 72)) 0 _ _ (found-no-smallest s W (b + 72) at F e))))
+        ∙ ap (λ (r : Result). leaves r bs) (sym (if=-yes (smallestBin s (b + 72)) 0 _ _ (found-no-smallest s W (b + 72) at F e (b + 72) (omega arith)))))
         (λ n. let m = found-some s W (b + 72) at F n in
         let is : smallestBin s (b + 72) ≡ m .0 = found-smallest s W (b + 72) at F (m .0) n (m .2) (omega arith) in
         let n' : smallestBin s (b + 72) ≢ 0 = (λ o. omega (arith, sym is ∙ o, m .1)) in
@@ -70,13 +70,15 @@ module _ (s : State) (bs : List ℕ) (S : Stands s bs) (b : ℕ) (large : 72 ≤
         (find-found bs s (loose s (S .well-formed)) (S .well-formed .fits) (sym (S .ends)) (S .holds) (b + 72) y before who (omega arith))
 
   large-at : (at : Place) → Found s b at
-      → if= (at .first) 0 (takeLarger bs (at .before) b) (if= (sizeAt bs (at .first)) b (takeWhole-model bs at b) (takeLarger bs (at .before) b))
+      → if= (at .first) 0 (cutLow-model bs b) (if= (sizeAt bs (at .first)) b (takeWhole-model bs at b) (takeLarger bs (at .before) b))
       ≡ leaves (takeLarge s b) bs
   unfolding takeLarge
   large-at at F =
       by= (at .first) 0
       (λ e. let none : first (s .bins b) ≡ 0 = found-none s W b at F e b (omega arith) in
-      if=-yes (at .first) 0 _ _ e ∙ takeLarger-bytes none (F .y) (at .before) (F .pred .who) (F .pred .below) ∙ no-exact none)
+      if=-yes (at .first) 0 _ _ e ∙ cutLow-bytes s bs S b (omega arith) eights
+      ∙ ap (λ (r : Result). leaves r bs) (sym (if=-yes (smallestBin s (b + 72)) 0 _ _ (found-no-smallest s W b at F e (b + 72) (omega arith))))
+      ∙ no-exact none)
       (λ n. let m = found-some s W b at F n in
       let sz : sizeAt bs (at .first) ≡ m .0 =
       listed-size-read bs s W (S .well-formed .fits) (sym (S .ends)) (S .holds) (at .first) (m .0) (first-count (s .bins (m .0)) (at .first) (m .2) n) in

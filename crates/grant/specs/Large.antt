@@ -60,5 +60,5 @@ unfoldable pub takeLarge : List ℕ → ℕ → Out
 takeLarge bs b =
     let exact = findBin bs chain-at false-block b in
     if= (exact .first) 0
-    (takeLarger bs (exact .before) b)
+    (cutLow bs b)
     (if= (sizeAt bs (exact .first)) b (takeWhole bs exact b) (takeLarger bs (exact .before) b))

@@ -108,12 +108,13 @@ fn take_larger(pool: &mut [u8], before: u32, b: u32) -> Answer
     take_part(pool, larger, b)
 }
 
+// The bin of exactly b, or what stands past its place. Where nothing does, no bin is larger either.
 pub fn take_large(pool: &mut [u8], b: u32) -> Answer
     ensures { λ r. ⌜ takeLarge (now (pool .entry)) b ≡ out r (now (pool .exit)) ⌝ }
 {
     let exact = bins::find(pool, paper::CHAIN, paper::FALSE_BLOCK, b);
     if exact.first == 0 {
-        return take_larger(pool, exact.before, b);
+        return cut_low(pool, b);
     }
     if bins::size_of(pool, exact.first) == b {
         return take_whole(pool, exact, b);

@@ -1,5 +1,5 @@
 -- "A refusal returns 0 beside its number and changes nothing." The number and the value of each answer, and what a call leaves.
-use mathlib.Core.List.{List}
+use mathlib.Core.List.{List, [], _∷_}
 use Prim.Native.Nat.{ℕ}
 use Rattle.paper.specs.declared.Answer.{Answer}
 use Rattle.paper.specs.declared.Answer.the-variants.{Done, Refused}
@@ -49,6 +49,11 @@ tally-number (Uncounted k) = k
 abbrev pub figures-of : Tally → Figures
 figures-of (Counted f) = f
 figures-of (Uncounted k) = no-figures
+
+-- "Held blocks; held bytes (block sizes); free small blocks; free large blocks; remainder size; free word; largest grant."
+abbrev pub sevenOf : Figures → List ℕ
+sevenOf f =
+    f .«held_blocks» ∷ f .«held_bytes» ∷ f .«free_small» ∷ f .«free_large» ∷ f .remainder ∷ f .«free_word» ∷ f .largest ∷ []
 
 -- what a call answers, and every lent byte afterwards
 pub record Out : Type 0 where

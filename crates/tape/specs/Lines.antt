@@ -3,9 +3,8 @@ use mathlib.Core.Path.{_≡_}
 use mathlib.Core.List.{List, [], _∷_, _++_}
 use Prim.Native.Nat.{ℕ, _≤_}
 use lib.ListN.{length}
-use Rattle.paper.specs.Answers.{number, value}
+use Rattle.paper.specs.Answers.{number, sevenOf, value}
 use Rattle.paper.specs.declared.Answer.{Answer}
-use Rattle.paper.specs.declared.Figures.{Figures}
 use Rattle.paper.specs.declared.Tally.{Tally}
 use Rattle.paper.specs.declared.Tally.the-variants.{Counted, Refused}
 use Rattle.text.specs.Page.{page, put}
@@ -32,11 +31,6 @@ lineOf nth letter numbers = beginOf nth letter ++ restOf numbers
 -- the numbers that an answer prints: the refusal number and the value
 abbrev pub answered : Answer → List ℕ
 answered a = number a ∷ value a ∷ []
-
--- the seven figures
-abbrev pub sevenOf : Figures → List ℕ
-sevenOf f =
-    f .«held_blocks» ∷ f .«held_bytes» ∷ f .«free_small» ∷ f .«free_large» ∷ f .remainder ∷ f .«free_word» ∷ f .largest ∷ []
 
 -- "Refused figures are seven zeros, printed on the tape as one 0."
 abbrev pub tallied : Tally → List ℕ
