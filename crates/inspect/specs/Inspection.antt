@@ -42,9 +42,9 @@ module _ (bs : List ℕ) where
   abbrev pub rest-tests : List Test
   rest-tests = rest-between R E
 
-  -- the high halves of the header's words, and the false block's words between its level word and its chain word
-  abbrev pub twelve-tests : List Test
-  twelve-tests = holds (cleared 12 8 4) ∷ holds (cleared 12 4 (false-block + 16)) ∷ []
+  -- the words at fixed places that are 0: the high halves of the header's words, and the false block's but its level word and its chain word
+  abbrev pub zero-tests : List Test
+  zero-tests = holds (cleared 12 8 4) ∷ holds (cleared 3 4 false-block) ∷ holds (cleared 12 4 (false-block + 16)) ∷ []
 
   -- the header's fixed words, the high halves among them, and the false block; and there is room for them
   abbrev pub false-tests : List Test

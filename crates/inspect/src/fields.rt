@@ -3,7 +3,7 @@ ghost use mathlib.Core.Path.{_≡_};
 ghost use lib.Dec.{eqb};
 ghost use Rattle.heads.specs.Links.{linkWord, followed};
 ghost use Rattle.inspect.specs.Tests.{pass};
-ghost use Rattle.inspect.specs.Inspection.{rest-between, twelve-tests, false-tests};
+ghost use Rattle.inspect.specs.Inspection.{rest-between, zero-tests, false-tests};
 use paper::BLOCKS;
 use paper::CHAIN;
 use paper::FALSE_BLOCK;
@@ -55,6 +55,14 @@ pub fn false_block_ok(pool: &[u8]) -> bool
     if words::field(pool, FALSE_BLOCK, CHAIN + 4) != 0 {
         return false;
     }
+    zeros(pool)
+}
+
+// The words that are 0: of the false block the three below its level word, and twelve between that and its chain word, in step
+// with the high halves of the header's twelve words.
+fn zeros(pool: &[u8]) -> bool
+    ensures { λ r. ⌜ r ≡ pass (zero-tests (now (pool .entry))) ⌝ }
+{
     if words::field(pool, FALSE_BLOCK, 0) != 0 {
         return false;
     }
@@ -64,13 +72,6 @@ pub fn false_block_ok(pool: &[u8]) -> bool
     if words::field(pool, FALSE_BLOCK, 8) != 0 {
         return false;
     }
-    twelve_zero(pool)
-}
-
-// The high halves of the header's twelve words, and the twelve words between the false block's level word and its chain word.
-fn twelve_zero(pool: &[u8]) -> bool
-    ensures { λ r. ⌜ r ≡ pass (twelve-tests (now (pool .entry))) ⌝ }
-{
     let mut left: u32 = 12;
     let mut half: usize = 4;
     let mut word: usize = 112;

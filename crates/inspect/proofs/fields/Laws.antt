@@ -12,7 +12,7 @@ use Rattle.words.specs.Sums.{plus, minus}
 use Rattle.words.specs.Words.{wordAt}
 use Rattle.heads.specs.Links.{linkWord, followed}
 use Rattle.inspect.specs.Tests.{pass}
-use Rattle.inspect.specs.Inspection.{cleared, rest-between, twelve-tests, false-tests}
+use Rattle.inspect.specs.Inspection.{cleared, rest-between, zero-tests, false-tests}
 use Rattle.inspect.proofs.Guards.{guard-inv, guard-yes, no-both, pass-is}
 
 -- ---- links
@@ -78,14 +78,14 @@ rest-is s a b {w} h1 h2 h3 h4 h5 h6 ew =
     pass-is (rest-between s a b) (eqb w (4 * (b - a) + 2))
     (λ h. (omega arith, (omega arith, (omega arith, (h5, (h6, (sym ew ∙ eqb-true _ _ h, tt))))))) (λ t. eq-eqb _ _ (ew ∙ t .1 .1 .1 .1 .1 .0))
 
-pub twelve-is : (s : List ℕ) → true ≡ cleared s 12 8 4 → true ≡ cleared s 12 4 112 → true ≡ pass (twelve-tests s)
-twelve-is s a b = pass-is (twelve-tests s) true (λ h. (sym a, (sym b, tt))) (λ t. refl)
+pub zeros-is : (s : List ℕ) → true ≡ cleared s 12 8 4 → Clearing s 3 4 96 0 108 → true ≡ cleared s 12 4 112 → true ≡ pass (zero-tests s)
+zeros-is s a b c = pass-is (zero-tests s) true (λ h. (sym a, (sym (is-cleared b refl), (sym c, tt)))) (λ t. refl)
 
 pub false-is : (s : List ℕ) {w1 w2 w3 w4 : ℕ} {b e : Bool} → 168 ≤ length s → w1 ≡ wordAt 4 s 8 → w1 ≡ 96 → w2 ≡ wordAt 4 s 108 → w2 ≡ 1
     → w3 ≡ wordAt 4 s 160 → b ≡ eqb w3 (linkWord 96 (followed 96 w3)) → not b ≡ false → w4 ≡ wordAt 4 s 164 → w4 ≡ 0
-    → Clearing s 3 4 96 0 108 → e ≡ pass (twelve-tests s) → e ≡ pass (false-tests s)
-false-is s {e = e} r a1 b1 a2 b2 a3 a3' b3 a4 b4 a6 a7 =
+    → e ≡ pass (zero-tests s) → e ≡ pass (false-tests s)
+false-is s {e = e} r a1 b1 a2 b2 a3 a3' b3 a4 b4 a5 =
     pass-is (false-tests s) e
-    (λ h. let g = guard-inv (twelve-tests s) false true true no-both (sym a7 ∙ h) .0 in
-    (sym a1 ∙ b1, (sym a2 ∙ b2, (link-true 96 a3' a3 (not-false _ b3), (sym a4 ∙ b4, (g .0, (sym (is-cleared a6 refl), (g .1 .0, (omega arith, tt)))))))))
-    (λ t. a7 ∙ guard-yes (twelve-tests s) false true (t .1 .1 .1 .1 .0, (t .1 .1 .1 .1 .1 .1 .0, tt)))
+    (λ h. let g = guard-inv (zero-tests s) false true true no-both (sym a5 ∙ h) .0 in
+    (sym a1 ∙ b1, (sym a2 ∙ b2, (link-true 96 a3' a3 (not-false _ b3), (sym a4 ∙ b4, (g .0, (g .1 .0, (g .1 .1 .0, (omega arith, tt)))))))))
+    (λ t. let z = t .1 .1 .1 .1 in a5 ∙ guard-yes (zero-tests s) false true (z .0, (z .1 .0, (z .1 .1 .0, tt))))

@@ -1,10 +1,9 @@
 -- `false_block_ok`: a failing test refuses, whatever stands before it; the last ones decide.
-use mathlib.Core.Path.{_∙_}
 use native.Mathlib.Omega.{arith}
 use borrow.Author.Needs.{needs}
 use Rattle.inspect.specs.Inspection.{false-tests}
-use Rattle.inspect.proofs.Guards.{no-both, off, pass-no}
-use Rattle.inspect.proofs.fields.Laws.{clearing, clears, false-is, not-cleared, true-link}
+use Rattle.inspect.proofs.Guards.{off, pass-no}
+use Rattle.inspect.proofs.fields.Laws.{false-is, true-link}
 use Rattle.inspect.proofs.fields.false_block_ok.Statement.{statement}
 use Rattle.inspect.proofs.fields.false_block_ok.Tie as tie
 
@@ -21,22 +20,12 @@ false-block-ok-spec =
     (λ c κs. search needs)
     (λ c. pass-no (false-tests (c .before .before .before .before .before .before .args .pool .now))
     (λ t. omega (arith, (c .before .field .ensures), c .if3 .taken, t .1 .0)))
-    (λ c κs. search needs)
-    (λ c κs. search needs)
+    (λ c κs. search needs) (λ c κs. search needs)
     (λ c. pass-no (false-tests (c .before .before .before .before .before .before .before .before .before .args .pool .now))
     (λ t. off (true-link 96 (c .before .link-ok .ensures) (c .before .before .field2 .ensures) (t .1 .1 .0)) (c .if4 .taken)))
-    (λ c. search needs)
-    (λ c κs. search needs)
+    (λ c. search needs) (λ c κs. search needs)
     (λ c. pass-no (false-tests (c .before .before .before .before .before .before .before .before .before .before .before .args .pool .now))
     (λ t. omega (arith, (c .before .field3 .ensures), c .if5 .taken, t .1 .1 .1 .0)))
     (λ c κs. search needs)
-    (λ c. pass-no (false-tests (c .before .before .before .before .before .before .before .before .before .before .before .before .before .args .pool .now))
-    (λ t. no-both (not-cleared (clearing _ 3 4 96) (λ e. omega arith) (c .before .field4 .ensures) (c .if6 .taken) ∙ t .1 .1 .1 .1 .1 .0)))
-    (λ c κs. search needs)
-    (λ c. pass-no (false-tests (c .before .before .before .before .before .before .before .before .before .before .before .before .before .before .before .args .pool .now))
-    (λ t. no-both (not-cleared (clears (clearing _ 3 4 96) (λ e. omega arith) (c .before .before .before .field4 .ensures) (c .before .before .if6 .left)) (λ e. omega arith) (c .before .field5 .ensures) (c .if7 .taken) ∙ t .1 .1 .1 .1 .1 .0)))
-    (λ c κs. search needs)
-    (λ c. pass-no (false-tests (c .before .before .before .before .before .before .before .before .before .before .before .before .before .before .before .before .before .args .pool .now))
-    (λ t. no-both (not-cleared (clears (clears (clearing _ 3 4 96) (λ e. omega arith) (c .before .before .before .before .before .field4 .ensures) (c .before .before .before .before .if6 .left)) (λ e. omega arith) (c .before .before .before .field5 .ensures) (c .before .before .if7 .left)) (λ e. omega arith) (c .before .field6 .ensures) (c .if8 .taken) ∙ t .1 .1 .1 .1 .1 .0)))
-    (λ c κs. search needs)
-    (λ c. false-is _ (c .before .before .before .before .before .before .before .before .before .before .before .before .before .before .before .before .if1 .left) (c .before .before .before .before .before .before .before .before .before .before .before .before .before .before .before .get32 .ensures) (c .before .before .before .before .before .before .before .before .before .before .before .before .before .before .if2 .left) (c .before .before .before .before .before .before .before .before .before .before .before .before .before .field .ensures) (c .before .before .before .before .before .before .before .before .before .before .before .before .if3 .left) (c .before .before .before .before .before .before .before .before .before .before .before .field2 .ensures) (c .before .before .before .before .before .before .before .before .before .before .link-ok .ensures) (c .before .before .before .before .before .before .before .before .before .if4 .left) (c .before .before .before .before .before .before .before .before .field3 .ensures) (c .before .before .before .before .before .before .before .if5 .left) (clears (clears (clears (clearing _ 3 4 96) (λ e. omega arith) (c .before .before .before .before .before .before .field4 .ensures) (c .before .before .before .before .before .if6 .left)) (λ e. omega arith) (c .before .before .before .before .field5 .ensures) (c .before .before .before .if7 .left)) (λ e. omega arith) (c .before .before .field6 .ensures) (c .before .if8 .left)) (c .twelve-zero .ensures)))
+    (λ c. false-is _ (c .before .before .before .before .before .before .before .before .before .before .if1 .left) (c .before .before .before .before .before .before .before .before .before .get32 .ensures) (c .before .before .before .before .before .before .before .before .if2 .left) (c .before .before .before .before .before .before .before .field .ensures) (c .before .before .before .before .before .before .if3 .left)
+    (c .before .before .before .before .before .field2 .ensures) (c .before .before .before .before .link-ok .ensures) (c .before .before .before .if4 .left) (c .before .before .field3 .ensures) (c .before .if5 .left) (c .zeros .ensures)))
