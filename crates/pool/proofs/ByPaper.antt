@@ -11,7 +11,7 @@ use Rattle.words.specs.Words.{Bytes}
 use Rattle.paper.specs.declared.Answer.{Answer}
 use Rattle.paper.specs.declared.Answer.the-variants.{Done, Refused}
 use Rattle.paper.specs.declared.Tally.the-variants.{Counted, Refused as Uncounted}
-use Rattle.paper.specs.Answers.{out, not-allowed, not-sound, not-held}
+use Rattle.paper.specs.Answers.{out, value, not-allowed, not-sound, not-held}
 use Rattle.paper.specs.Blocks.{State, block, blocks, held}
 use Rattle.paper.specs.Calls.{Reading, Reads, misfit, broken, sound, inspectCall, askCall, lendFrom, lendTo, figuresCall}
 use Rattle.paper.specs.GivingBack.{heldAt, ask as paperAsk}
@@ -88,10 +88,6 @@ module _ (bs : List ℕ) where
     pub less-four : (s : State) → Reads bs (sound s) → (offset : ℕ) → heldAt s offset ≢ 0 → minus (heldAt s offset) 4 ≡ heldAt s offset - 4
     less-four s k offset n = let h = held-inside s k offset n in omega arith
 
-    none-lent : (offset : ℕ) {j : ℕ} → lookUp bs offset ≡ Refused j → lent bs offset ≡ 0
-    unfolding lent
-    none-lent offset e = rw e
-
     pub look-up-misfit : (offset : ℕ) → Reads bs misfit → lookUp bs offset ≡ Refused not-allowed
     unfolding lookUp
     look-up-misfit offset k = misfit-no Refused _ k
@@ -125,12 +121,15 @@ module _ (bs : List ℕ) where
     unfolding ask
     ask-paper offset = ask-by offset (read bs) (reads bs bytes)
 
-    lent-by : (offset : ℕ) (s : State) → Reads bs (sound s) → lent bs offset ≡ heldAt s offset - 4
+    lent-is : (offset : ℕ) (x : Reading) → Reads bs x → lent bs offset ≡ value (askCall x offset)
     unfolding lent
+    lent-is offset x k = ap value (ask-by offset x k)
+
+    lent-by : (offset : ℕ) (s : State) → Reads bs (sound s) → lent bs offset ≡ heldAt s offset - 4
+    unfolding paperAsk
     lent-by offset s k =
-        by= (heldAt s offset) 0
-        (λ e. rw (look-up-none offset s k e) (omega arith))
-        (λ n. rw (look-up-held offset s k n) (less-four s k offset n))
+        lent-is offset (sound s) k
+        ∙ by= (heldAt s offset) 0 (λ e. ap value (if=-yes (heldAt s offset) 0 _ _ e) ∙ omega arith) (λ n. ap value (if=-no (heldAt s offset) 0 _ _ n))
 
     -- what can be lent is what is held: there it is at least 4 bytes, and they end within the pool
     lendable-held : (offset refused done : ℕ) (s : State) → Reads bs (sound s) → lendable bs offset refused done ≡ if= (heldAt s offset) 0 refused done
@@ -144,14 +143,14 @@ module _ (bs : List ℕ) where
 
     from-by : (offset : ℕ) (x : Reading) → Reads bs x → from-model bs offset ≡ lendFrom x bs offset
     unfolding from-model
-    from-by offset misfit k = if=-yes (lent bs offset) 0 _ _ (none-lent offset (look-up-misfit offset k))
-    from-by offset broken k = if=-yes (lent bs offset) 0 _ _ (none-lent offset (look-up-broken offset k))
+    from-by offset misfit k = if=-yes (lent bs offset) 0 _ _ (lent-is offset misfit k)
+    from-by offset broken k = if=-yes (lent bs offset) 0 _ _ (lent-is offset broken k)
     from-by offset (sound s) k = lendable-held offset (length bs) offset s k
 
     to-by : (offset : ℕ) (x : Reading) → Reads bs x → to-model bs offset ≡ lendTo x bs offset
     unfolding to-model
-    to-by offset misfit k = if=-yes (lent bs offset) 0 _ _ (none-lent offset (look-up-misfit offset k))
-    to-by offset broken k = if=-yes (lent bs offset) 0 _ _ (none-lent offset (look-up-broken offset k))
+    to-by offset misfit k = if=-yes (lent bs offset) 0 _ _ (lent-is offset misfit k)
+    to-by offset broken k = if=-yes (lent bs offset) 0 _ _ (lent-is offset broken k)
     to-by offset (sound s) k =
         lendable-held offset (length bs) (offset + lent bs offset) s k
         ∙ ap (λ (t : ℕ). if= (heldAt s offset) 0 (length bs) (offset + t)) (lent-by offset s k)

@@ -9,7 +9,7 @@ use Rattle.paper.specs.declared.Answer.{Answer}
 use Rattle.paper.specs.declared.Answer.the-variants.{Done, Refused}
 use Rattle.paper.specs.declared.Tally.{Tally}
 use Rattle.paper.specs.declared.Tally.the-variants.{Counted, Refused as Uncounted}
-use Rattle.paper.specs.Answers.{Out, out, not-allowed, not-sound, not-held, not-53}
+use Rattle.paper.specs.Answers.{Out, out, value, not-allowed, not-sound, not-held, not-53}
 use Rattle.paper.specs.Allowed.{allowed}
 use Rattle.inspect.specs.Inspection.{inspected}
 use Rattle.grant.specs.Take.{take as takeSound}
@@ -51,7 +51,7 @@ ask bs offset = found (lookUp bs offset) Refused (λ z. Done (minus z 4))
 
 -- how many bytes are lent
 unfoldable pub lent : List ℕ → ℕ → ℕ
-lent bs offset = found (lookUp bs offset) (λ k. 0) (λ z. minus z 4)
+lent bs offset = value (ask bs offset)
 
 -- whether they can be: there are some, and they end within the pool
 abbrev pub lendable : List ℕ → ℕ → ℕ → ℕ → ℕ

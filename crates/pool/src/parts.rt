@@ -2,7 +2,7 @@
 ghost use mathlib.Core.Path.{_≡_};
 ghost use Rattle.pool.specs.Models.{lent as lent-of, Bounds};
 ghost use Rattle.pool.specs.Calls.{Lent};
-use crate::calls::look_up;
+use crate::calls::ask;
 use paper::Answer;
 
 // A part of the pool, by the places where it starts and ends.
@@ -15,11 +15,10 @@ pub struct Span {
 fn lent(pool: &[u8], offset: u32) -> u32
     ensures { λ r. ⌜ r ≡ lent-of (now (pool .entry)) offset ⌝ }
 {
-    let found = look_up(pool, offset);
-    let Answer::Done(z) = found else {
+    let Answer::Done(len) = ask(pool, offset) else {
         return 0;
     };
-    words::minus(z, 4)
+    len
 }
 
 // Where the part that is lent starts and ends; both are the pool's end where the call is refused.

@@ -1,16 +1,16 @@
--- pool::lent meets its contract, by the block that was found.
-use Rattle.pool.specs.Models.{lent}
+-- pool::lent meets its contract: what is asked is what can be lent.
 use borrow.Author.Needs.{needs}
+use Rattle.pool.specs.Models.{lent}
 use Rattle.pool.proofs.parts.lent.Statement.{statement}
 use Rattle.pool.proofs.parts.lent.Tie as tie
 
 returns : tie.Need-returns
 unfolding lent
-returns c = rw (← c .before .before .look-up .ensures, c .enum-told .given .1)
+returns c = rw (← c .before .before .ask .ensures, c .enum-told .given .1)
 
 returns-2 : tie.Need-returns-2
 unfolding lent
-returns-2 c = rw (← c .before .before .before .before .look-up .ensures, c .before .before .found .given .1) (cc)
+returns-2 c = rw (← c .before .before .before .ask .ensures, c .before .len .given .1)
 
 pub lent-spec : {M : Type 1} → statement M
 lent-spec =
@@ -20,5 +20,4 @@ lent-spec =
     (λ c. search needs)
     (λ c. search needs)
     returns
-    (λ c κs. search needs)
     returns-2)
