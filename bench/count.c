@@ -1,25 +1,25 @@
-// Executed instructions, counted by valgrind between two requests of this program. Each measurement is a dump of its own,
-// under its name; `bench/run` reads the numbers from the dumps. What the two requests themselves cost is measured too.
+// Executed instructions, counted between two requests of this program; `counting.h` says by whom. Each measurement has a
+// name, under which `bench/table.py` finds its number. What the two requests themselves cost is measured too.
+#include "counting.h"
 #include "measure.h"
 #include <stdio.h>
 #include <stdlib.h>
 #include <string.h>
-#include <valgrind/callgrind.h>
 
 static uint8_t image[LARGEST], pool[LARGEST];
 
-#define COUNTED(call)            \
-    do {                         \
-        CALLGRIND_TOGGLE_COLLECT; \
-        call;                    \
-        CALLGRIND_TOGGLE_COLLECT; \
+#define COUNTED(call) \
+    do {              \
+        COUNT_ON;     \
+        call;         \
+        COUNT_OFF;    \
     } while (0)
 
-// Ends a measurement of `calls` calls: its dump has the counted instructions since the last one.
+// Ends a measurement of `calls` calls: it has the counted instructions since the last one.
 static void done(const char *kind, const char *name, const char *more, unsigned calls) {
     char text[200];
     snprintf(text, sizeof text, "%s | %s | %s | %u", kind, name, more, calls);
-    CALLGRIND_DUMP_STATS_AT(text);
+    COUNTED_AS(text);
 }
 
 static uint64_t nothing(const uint8_t *at, size_t n) { return at ? n : 0; }
@@ -202,7 +202,7 @@ void count(void) {
     // a call of each library first, so that the loader's work is done
     for (int l = 0; l < 2; l++)
         libraries[l]->inspect(pool, libraries[l]->lay_out(pool, LARGEST));
-    CALLGRIND_ZERO_STATS;
+    COUNT_FROM_HERE;
     requests_alone();
     inspections(LARGEST);
     inspections(1024);

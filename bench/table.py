@@ -1,6 +1,7 @@
 """Turns the measurements into the tables of docs/BENCH.md and the plot docs/bench.svg.
 
-    table.py FOLDER DOCS   FOLDER has the files that bench/run leaves: machine, text, stack, time, and the dumps of the counts.
+    table.py FOLDER DOCS   FOLDER has the files that bench/run leaves: machine, text, stack, time (empty where there are none), and
+                           the counts: valgrind's dumps, or the lines of steps.
                            In DOCS/BENCH.md only what stands between the two marker lines is replaced.
 """
 
@@ -17,10 +18,10 @@ def lines_of(path):
         return [[part.strip() for part in line.split("|")] for line in file if line.strip()]
 
 
-def counted(folder):
-    """Instructions by name, a call: those of the dump, less what an empty measurement counts."""
-    found, alone = {}, 0
-    for path in glob.glob(os.path.join(folder, "out.*")):
+def dumped(folder):
+    """Valgrind's dumps, in the order of the measurements, each as the line that a count by steps has: KIND | .. | CALLS | TOTAL."""
+    paths = glob.glob(os.path.join(folder, "out.*"))
+    for path in sorted(paths, key=lambda path: int(path.rsplit(".", 1)[1])):
         name = total = None
         with open(path) as file:
             for line in file:
@@ -28,13 +29,16 @@ def counted(folder):
                     name = line.split(":", 3)[3]
                 elif line.startswith("totals:"):
                     total = int(line.split()[1])
-        if name is None or total is None:
-            continue
-        key = [part.strip() for part in name.split("|")]
-        if key[0] == "requests":
-            alone = total
-        else:
-            found[tuple(key[:-1])] = (total, int(key[-1]))
+        if name is not None and total is not None:
+            yield [part.strip() for part in name.split("|")] + [total]
+
+
+def counted(folder):
+    """Instructions by name, a call, less what an empty measurement counts."""
+    steps = os.path.join(folder, "steps")
+    lines = lines_of(steps) if os.path.exists(steps) else dumped(os.path.join(folder, "dumps"))
+    found = {tuple(key): (int(total), int(calls)) for *key, calls, total in lines}
+    alone, _ = found.pop(("requests", "", ""))
     return {key: total / calls - alone for key, (total, calls) in found.items()}
 
 
@@ -57,31 +61,31 @@ def unique(keys):
 
 class Report:
     def __init__(self, folder):
-        self.count = counted(os.path.join(folder, "dumps"))
+        self.count = counted(folder)
         self.time = {tuple(line[:-1]): float(line[-1]) for line in lines_of(os.path.join(folder, "time"))}
         self.stack = lines_of(os.path.join(folder, "stack"))
         self.text = lines_of(os.path.join(folder, "text"))
         self.machine = lines_of(os.path.join(folder, "machine"))
         # names and ratios of what inspects: the goal is about these, and they are drawn
         self.bars = []
-        self.shapes = unique(key[1] for key in self.time if key[0] == "inspect")
+        self.shapes = unique(key[1] for key in self.count if key[0] == "inspect")
 
     def bar(self, name, ours, theirs):
         self.bars.append((name, ours / theirs))
         return ratio(ours, theirs)
 
     def inspection(self, n):
-        rows = []
+        rows, timed = [], self.time and n == 65536
         for shape in self.shapes:
             ours, theirs = (self.count["inspect", shape, str(n), who] for who in ("proved", "plain"))
             each = n / 1024
             row = [shape, number(ours / each), number(theirs / each)]
             row.append(self.bar("inspect, " + shape, ours, theirs) if n == 65536 else ratio(ours, theirs))
-            if n == 65536:
+            if timed:
                 spent = [self.time["inspect", shape, who] for who in ("proved", "plain")]
                 row += [number(spent[0] / each), number(spent[1] / each), ratio(*spent)]
             rows.append(row)
-        head = ["Pool", "Proved", "Plain C", "Ratio"] + (["Proved, ns", "Plain C, ns", "Ratio"] if n == 65536 else [])
+        head = ["Pool", "Proved", "Plain C", "Ratio"] + (["Proved, ns", "Plain C, ns", "Ratio"] if timed else [])
         return table(head, rows)
 
     def operations(self):
@@ -123,8 +127,9 @@ class Report:
             get = lambda who: self.count["served", name, who]
             ours = get("proved") - get("proved inspection")
             rows.append([name, number(ours)] + [number(get(who)) for who in ("plain unchecked", "first fit", "malloc")])
-        spent = [number(self.time["served", who]) for who in ("plain unchecked", "first fit", "malloc")]
-        rows.append(["ns a request", "-"] + spent)
+        if self.time:
+            spent = [number(self.time["served", who]) for who in ("plain unchecked", "first fit", "malloc")]
+            rows.append(["ns a request", "-"] + spent)
         return table(["A request", "Proved, less inspection", "Plain C, unchecked", "First fit", "malloc and free"], rows)
 
     def sizes(self):
@@ -137,7 +142,8 @@ class Report:
         out += ["### Inspection: instructions for a pool of 1,024 bytes", ""] + self.inspection(1024)
         out += ["### Taking and giving back: instructions a call, a pool of 65,536 bytes", ""] + self.operations()
         out += ["### The worked tape: instructions", ""] + self.tape()
-        out += ["### Times with inspection", ""] + self.pairs()
+        if self.time:
+            out += ["### Times with inspection", ""] + self.pairs()
         out += ["### Against a textbook list and the C library: instructions a call, without inspection", ""] + self.served()
         out += ["### Stack and text", ""] + self.sizes()
         within = sum(value <= GOAL for _, value in self.bars)
