@@ -6,6 +6,7 @@
 """
 
 import glob
+import html
 import os
 import sys
 
@@ -151,23 +152,25 @@ class Report:
         return "\n".join(out)
 
     def svg(self):
-        """A bar for each ratio of counted instructions; the line is the goal."""
-        left, width, step, top = 470, 400, 20, 40
-        most = max([2.0] + [value for _, value in self.bars])
-        height, scale = top + step * len(self.bars) + 20, width / most
+        """A bar for each ratio of counted instructions, with its number at the right; the lines are plain C and the goal."""
+        left, width, step, top = 400, 360, 20, 44
+        most = max([1.5] + [value for _, value in self.bars])
+        height, scale = top + step * len(self.bars) + 12, width / most
         out = [f'<svg xmlns="http://www.w3.org/2000/svg" width="{left + width + 60}" height="{height}" '
                'font-family="sans-serif" font-size="12">',
-               '<rect width="100%" height="100%" fill="white"/>',
-               f'<text x="{left}" y="16">instructions of the proved library, times those of plain C (line: {GOAL})</text>']
+               '<rect width="100%" height="100%" fill="white"/>']
         for index, (name, value) in enumerate(self.bars):
             y = top + step * index
-            colour = "#4a7" if value <= GOAL else "#c83"
-            out.append(f'<text x="{left - 8}" y="{y + 12}" text-anchor="end">{name}</text>')
-            out.append(f'<rect x="{left}" y="{y}" width="{value * scale:.1f}" height="{step - 5}" fill="{colour}"/>')
-            out.append(f'<text x="{left + value * scale + 4:.1f}" y="{y + 12}">{value:.2f}</text>')
-        for at, colour in ((1, "#999"), (GOAL, "#000")):
-            x = left + at * scale
-            out.append(f'<line x1="{x:.1f}" y1="{top - 14}" x2="{x:.1f}" y2="{height - 12}" stroke="{colour}"/>')
+            color = "#46627f" if value <= GOAL else "#c9853a"
+            out += [f'<text x="{left - 8}" y="{y + 12}" text-anchor="end">{html.escape(name)}</text>',
+                    f'<rect x="{left}" y="{y}" width="{value * scale:.1f}" height="15" fill="{color}"/>',
+                    f'<text x="{left + width + 40}" y="{y + 12}" text-anchor="end">{value:.2f}</text>']
+        for value, name, color in ((1, "plain C", "#999999"), (GOAL, f"goal {GOAL}", "black")):
+            x = left + value * scale
+            anchor = "end" if value == 1 else "start"
+            out += [f'<line x1="{x:.1f}" x2="{x:.1f}" y1="{top - 8}" y2="{height - 8}" stroke="{color}"/>',
+                    f'<text x="{x:.1f}" y="{top - 14}" text-anchor="{anchor}" fill="{color}">{name}</text>']
+        out += [f'<text x="{left - 8}" y="{top - 14}" text-anchor="end" font-weight="bold">instructions, as a multiple of plain C\'s</text>']
         return "\n".join(out + ["</svg>", ""])
 
 
