@@ -8,11 +8,11 @@ use native.Mathlib.Omega.{arith}
 use lib.ListN.{length}
 use Rattle.bins.proofs.LinkRead.{chain-read, false-chain-read, listed-size-read}
 use Rattle.bins.specs.Find.{findBin, findFrom, linkedAt, sizeAt}
-use Rattle.paper.proofs.Bins.{first-count}
-use Rattle.paper.proofs.First.{Pred, reach-at}
-use Rattle.paper.proofs.Listed.{Loose, start}
-use Rattle.paper.proofs.LooseReads.{above-none, above-some, bin-unique, height-pos, listed-size, reach-in}
-use Rattle.paper.proofs.Seek.{seek-gap, seek-zero}
+use Rattle.paper.proofs.bins.Bins.{first-count}
+use Rattle.paper.proofs.steps.First.{Pred, reach-at}
+use Rattle.paper.proofs.bins.Listed.{Loose, start}
+use Rattle.paper.proofs.reads.LooseReads.{above-none, above-some, bin-unique, height-pos, listed-size, reach-in}
+use Rattle.paper.proofs.bins.Seek.{seek-gap, seek-zero}
 use Rattle.paper.specs.Bins.{count, first}
 use Rattle.paper.specs.Blocks.{State, end}
 use Rattle.paper.specs.Governed.{above, reach, sheet}

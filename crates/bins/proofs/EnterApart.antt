@@ -12,11 +12,11 @@ use Rattle.bins.specs.Find.{findBin, findFrom, linkedAt, sizeAt}
 use Rattle.bins.specs.declared.chain.Place.{Place}
 use Rattle.heads.specs.Heads.{headOf}
 use Rattle.heads.specs.Links.{followed, linkWord}
-use Rattle.paper.proofs.Bins.{first-count}
-use Rattle.paper.proofs.FreeWordLast.{Past, past-put, past-word}
-use Rattle.paper.proofs.Listed.{Loose, start}
-use Rattle.paper.proofs.LooseReads.{above-some, listed-size, reach-in}
-use Rattle.paper.proofs.Stores.{puts}
+use Rattle.paper.proofs.bins.Bins.{first-count}
+use Rattle.paper.proofs.sheet.FreeWordLast.{Past, past-put, past-word}
+use Rattle.paper.proofs.bins.Listed.{Loose, start}
+use Rattle.paper.proofs.reads.LooseReads.{above-some, listed-size, reach-in}
+use Rattle.paper.proofs.sheet.Stores.{puts}
 use Rattle.paper.specs.Bins.{first}
 use Rattle.paper.specs.Blocks.{State, end}
 use Rattle.paper.specs.Governed.{above, reach, sheet}

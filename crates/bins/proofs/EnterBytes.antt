@@ -12,17 +12,17 @@ use Rattle.bins.specs.Enter.{between, enter, enterAt, enterOnly, enterSe
 use Rattle.bins.specs.Find.{findBin, linkedAt, sizeAt}
 use Rattle.bins.specs.declared.chain.Place.{Place}
 use Rattle.heads.specs.Links.{linkWord}
-use Rattle.paper.proofs.Bins.{count-cons, count-here, first-count, lastOr}
-use Rattle.paper.proofs.Enter.{enter-puts}
-use Rattle.paper.proofs.EnterStep.{above-skip, entered, entered-above, no-first, only-step, second-step, split-first}
-use Rattle.paper.proofs.First.{Pred, reach-at}
-use Rattle.paper.proofs.Leaving.{back-puts, rebinned}
-use Rattle.paper.proofs.Listed.{Loose, start}
-use Rattle.paper.proofs.LooseReads.{height-pos}
-use Rattle.paper.proofs.Only.{only-puts}
-use Rattle.paper.proofs.Phases.{Step, step-write}
-use Rattle.paper.proofs.Stores.{puts}
-use Rattle.paper.proofs.Walk.{In, in-low}
+use Rattle.paper.proofs.bins.Bins.{count-cons, count-here, first-count, lastOr}
+use Rattle.paper.proofs.steps.Enter.{enter-puts}
+use Rattle.paper.proofs.steps.EnterStep.{above-skip, entered, entered-above, no-first, only-step, second-step, split-first}
+use Rattle.paper.proofs.steps.First.{Pred, reach-at}
+use Rattle.paper.proofs.steps.Leaving.{back-puts, rebinned}
+use Rattle.paper.proofs.bins.Listed.{Loose, start}
+use Rattle.paper.proofs.reads.LooseReads.{height-pos}
+use Rattle.paper.proofs.steps.Only.{only-puts}
+use Rattle.paper.proofs.sheet.Phases.{Step, step-write}
+use Rattle.paper.proofs.sheet.Stores.{puts}
+use Rattle.paper.proofs.runs.Walk.{In, in-low}
 use Rattle.paper.specs.Bins.{count, first, enter as enter-list}
 use Rattle.paper.specs.Blocks.{State, block, blocks, end, free}
 use Rattle.paper.specs.Governed.{above, reach, sheet}

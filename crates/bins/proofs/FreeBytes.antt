@@ -5,7 +5,7 @@ use Prim.Native.Nat.{_%_, _+_, _-_, _≤_, ℕ}
 use native.Mathlib.Omega.{arith}
 use Rattle.bins.specs.Enter.{makeFree}
 use Rattle.heads.specs.Heads.{freeHead, wordOf}
-use Rattle.paper.proofs.Stores.{puts}
+use Rattle.paper.proofs.sheet.Stores.{puts}
 use Rattle.paper.specs.Blocks.{free}
 use Rattle.paper.specs.Governed.{headWord}
 

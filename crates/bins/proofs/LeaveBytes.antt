@@ -10,13 +10,13 @@ use Rattle.bins.proofs.LinkRead.{chain-read, listed-size-read, member, 
 use Rattle.bins.specs.Find.{findBin, linkedAt}
 use Rattle.bins.specs.Leave.{headBin, leave, leaveFirst, leaveLater}
 use Rattle.heads.specs.Links.{linkWord}
-use Rattle.paper.proofs.Bins.{count-append, count-cons, count-here, last-count, lastOr}
-use Rattle.paper.proofs.First.{Pred, first-puts, heir, heir-puts}
-use Rattle.paper.proofs.LeaveStep.{leave-puts, leave-step}
-use Rattle.paper.proofs.Leaving.{back-puts, later-puts, rebinned}
-use Rattle.paper.proofs.Listed.{Loose, start}
-use Rattle.paper.proofs.Phases.{Step, step-write}
-use Rattle.paper.proofs.Stores.{puts}
+use Rattle.paper.proofs.bins.Bins.{count-append, count-cons, count-here, last-count, lastOr}
+use Rattle.paper.proofs.steps.First.{Pred, first-puts, heir, heir-puts}
+use Rattle.paper.proofs.steps.LeaveStep.{leave-puts, leave-step}
+use Rattle.paper.proofs.steps.Leaving.{back-puts, later-puts, rebinned}
+use Rattle.paper.proofs.bins.Listed.{Loose, start}
+use Rattle.paper.proofs.sheet.Phases.{Step, step-write}
+use Rattle.paper.proofs.sheet.Stores.{puts}
 use Rattle.paper.specs.Bins.{count, first}
 use Rattle.paper.specs.Blocks.{State, end}
 use Rattle.paper.specs.Governed.{above, height, sheet}

@@ -6,8 +6,8 @@ use native.Mathlib.Omega.{arith}
 use lib.ListN.{length}
 use Rattle.bins.proofs.LinkRead.{next-in}
 use Rattle.bins.specs.Find.{linkedAt}
-use Rattle.paper.proofs.Bins.{count-cons, count-here}
-use Rattle.paper.proofs.Listed.{Loose, start}
+use Rattle.paper.proofs.bins.Bins.{count-cons, count-here}
+use Rattle.paper.proofs.bins.Listed.{Loose, start}
 use Rattle.paper.specs.Bins.{count, first, used}
 use Rattle.paper.specs.Blocks.{State, end}
 use Rattle.paper.specs.Governed.{sheet}

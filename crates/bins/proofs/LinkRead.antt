@@ -9,11 +9,11 @@ use lib.ListN.{length}
 use Rattle.bins.specs.Find.{linkedAt, sizeAt}
 use Rattle.heads.specs.Heads.{headOf}
 use Rattle.heads.specs.Links.{followed, linkWord}
-use Rattle.paper.proofs.Bins.{count-append, count-here, first-count, lastOr, next-mem, next-p, prev-mem, prev-p, prev-some}
-use Rattle.paper.proofs.Distances.{followed-linkWord}
-use Rattle.paper.proofs.Listed.{Loose, start}
-use Rattle.paper.proofs.LooseReads.{above-some, bin-unique, false-reads, following-reads, head-word-reads, height-pos, index-reads, previous-reads, reach-in}
-use Rattle.paper.proofs.Walk.{In, in-flag}
+use Rattle.paper.proofs.bins.Bins.{count-append, count-here, first-count, lastOr, next-mem, next-p, prev-mem, prev-p, prev-some}
+use Rattle.paper.proofs.bins.Distances.{followed-linkWord}
+use Rattle.paper.proofs.bins.Listed.{Loose, start}
+use Rattle.paper.proofs.reads.LooseReads.{above-some, bin-unique, false-reads, following-reads, head-word-reads, height-pos, index-reads, previous-reads, reach-in}
+use Rattle.paper.proofs.runs.Walk.{In, in-flag}
 use Rattle.paper.specs.Bins.{count, first, nextIn, prevIn}
 use Rattle.paper.specs.Blocks.{Kind, State, block, blocks, end, free, held, remainder}
 use Rattle.paper.specs.Governed.{above, headWord, sheet}

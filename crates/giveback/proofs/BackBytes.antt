@@ -7,10 +7,10 @@ use native.Mathlib.Omega.{arith}
 use Rattle.giveback.proofs.LargeBytes.{large-bytes}
 use Rattle.giveback.proofs.SmallBytes.{small-bytes}
 use Rattle.giveback.specs.GiveBack.{giveBack}
-use Rattle.paper.proofs.BackKeeps.{giveBack-large, giveBack-small}
-use Rattle.paper.proofs.HeldPlaces.{held-large, held-small}
-use Rattle.paper.proofs.Neighbours.{run}
-use Rattle.paper.proofs.Stands.{Stands}
+use Rattle.paper.proofs.keeps.BackKeeps.{giveBack-large, giveBack-small}
+use Rattle.paper.proofs.runs.HeldPlaces.{held-large, held-small}
+use Rattle.paper.proofs.runs.Neighbours.{run}
+use Rattle.paper.proofs.reads.Stands.{Stands}
 use Rattle.paper.specs.Blocks.{State}
 use Rattle.paper.specs.GivingBack.{heldAt, giveBack as giveBack-state}
 use Rattle.paper.specs.Governed.{sheet}

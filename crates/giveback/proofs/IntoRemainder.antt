@@ -5,14 +5,14 @@ use mathlib.Core.Option.{some}
 use mathlib.Core.Path.{_∙_, _≡_, ap, refl, sym}
 use Prim.Native.Nat.{_%_, _+_, _-_, _/_, _<_, _≤_, ℕ}
 use native.Mathlib.Omega.{arith}
-use Rattle.paper.proofs.Fields.{at-head}
-use Rattle.paper.proofs.Flags.{flag-append}
-use Rattle.paper.proofs.Leave.{NothingNew, with-bins}
-use Rattle.paper.proofs.Phases.{Step}
-use Rattle.paper.proofs.Segment.{after-same, seg-frame}
-use Rattle.paper.proofs.Settled.{intoRemainder}
-use Rattle.paper.proofs.Stores.{Elsewhere, Good}
-use Rattle.paper.proofs.Walk.{In, flagPast, freeSum-append, in-mid, total-append}
+use Rattle.paper.proofs.sheet.Fields.{at-head}
+use Rattle.paper.proofs.runs.Flags.{flag-append}
+use Rattle.paper.proofs.steps.Leave.{NothingNew, with-bins}
+use Rattle.paper.proofs.sheet.Phases.{Step}
+use Rattle.paper.proofs.steps.Segment.{after-same, seg-frame}
+use Rattle.paper.proofs.keeps.Settled.{intoRemainder}
+use Rattle.paper.proofs.sheet.Stores.{Elsewhere, Good}
+use Rattle.paper.proofs.runs.Walk.{In, flagPast, freeSum-append, in-mid, total-append}
 use Rattle.paper.specs.Blocks.{Block, State, block, blocks, end, freeSum, remainder, total}
 use Rattle.paper.specs.Governed.{headWord, headerWord, sheet, walk}
 use Rattle.words.specs.Choice.{if<, if=, ifs}

@@ -10,8 +10,8 @@ use Rattle.giveback.proofs.RunReads.{near, run-start, start-read}
 use Rattle.giveback.proofs.RunShape.{over-cases, run-to-R}
 use Rattle.giveback.specs.Large.{giveBackLarge, joinRest, joinRun}
 use Rattle.giveback.specs.Small.{earned}
-use Rattle.paper.proofs.Neighbours.{Run}
-use Rattle.paper.proofs.Stands.{Stands}
+use Rattle.paper.proofs.runs.Neighbours.{Run}
+use Rattle.paper.proofs.reads.Stands.{Stands}
 use Rattle.paper.specs.Blocks.{Block, State, block, held, total}
 use Rattle.paper.specs.GivingBack.{giveBackLarge as giveBackLarge-state}
 use Rattle.paper.specs.Governed.{sheet}

@@ -10,18 +10,18 @@ use lib.ListN.{getD, length}
 use Rattle.bins.proofs.LeaveBytes.{bin-before, leave-bytes, leave-preds, leave-stores}
 use Rattle.bins.specs.Leave.{leave}
 use Rattle.giveback.specs.Large.{restored}
-use Rattle.paper.proofs.Bins.{count-append, count-here}
-use Rattle.paper.proofs.Fields.{at-block, height-le}
-use Rattle.paper.proofs.Leave.{index-none, with-bins}
-use Rattle.paper.proofs.LeaveStep.{leave-puts, leave-step}
-use Rattle.paper.proofs.Leaving.{leaving-loose, once-p, rebinned}
-use Rattle.paper.proofs.LinkWords.{Grow, Words, grow-trans, leave-grows, leave-words, out-words, unlisted}
-use Rattle.paper.proofs.Listed.{Loose, rebin-same, start}
-use Rattle.paper.proofs.Octets.{getD-put-in, octet-word}
-use Rattle.paper.proofs.Phases.{Step, step-keeps}
-use Rattle.paper.proofs.Stores.{Elsewhere}
-use Rattle.paper.proofs.Walk.{In}
-use Rattle.paper.proofs.Written.{holds-through, holds-write, length-write}
+use Rattle.paper.proofs.bins.Bins.{count-append, count-here}
+use Rattle.paper.proofs.sheet.Fields.{at-block, height-le}
+use Rattle.paper.proofs.steps.Leave.{index-none, with-bins}
+use Rattle.paper.proofs.steps.LeaveStep.{leave-puts, leave-step}
+use Rattle.paper.proofs.steps.Leaving.{leaving-loose, once-p, rebinned}
+use Rattle.paper.proofs.steps.LinkWords.{Grow, Words, grow-trans, leave-grows, leave-words, out-words, unlisted}
+use Rattle.paper.proofs.bins.Listed.{Loose, rebin-same, start}
+use Rattle.paper.proofs.sheet.Octets.{getD-put-in, octet-word}
+use Rattle.paper.proofs.sheet.Phases.{Step, step-keeps}
+use Rattle.paper.proofs.sheet.Stores.{Elsewhere}
+use Rattle.paper.proofs.runs.Walk.{In}
+use Rattle.paper.proofs.sheet.Written.{holds-through, holds-write, length-write}
 use Rattle.paper.specs.Bins.{count, first, rebin}
 use Rattle.paper.specs.Blocks.{State, block, blocks, end, free}
 use Rattle.paper.specs.Governed.{height, largeWord, sheet}

@@ -12,19 +12,19 @@ use Rattle.giveback.proofs.RunLeft.{left-if-held-above}
 use Rattle.giveback.proofs.RunShape.{flag-under}
 use Rattle.giveback.specs.Large.{joinRest, leaveBelow}
 use Rattle.giveback.specs.Small.{earned}
-use Rattle.paper.proofs.BackLargeKeeps.{run-keeps}
-use Rattle.paper.proofs.FreeWordLast.{free-word-reads, past-word}
-use Rattle.paper.proofs.Kept.{Kept, sized-low, sized-rest}
-use Rattle.paper.proofs.Leave.{with-bins}
-use Rattle.paper.proofs.Listed.{Loose, loose}
-use Rattle.paper.proofs.Neighbours.{Run}
-use Rattle.paper.proofs.Phases.{Step, step-write}
-use Rattle.paper.proofs.Settled.{fewer, giveBackLarge-settles, intoRemainder, joined, joined-total, run-ends, settle-joins}
-use Rattle.paper.proofs.Splitting.{sized-mid-parts}
-use Rattle.paper.proofs.Stands.{Stands}
-use Rattle.paper.proofs.Stores.{puts}
-use Rattle.paper.proofs.Walk.{freeSum-append, freeSum-le, sized-eight, total-append}
-use Rattle.paper.proofs.Written.{holds-word, write-over}
+use Rattle.paper.proofs.keeps.BackLargeKeeps.{run-keeps}
+use Rattle.paper.proofs.sheet.FreeWordLast.{free-word-reads, past-word}
+use Rattle.paper.proofs.keeps.Kept.{Kept, sized-low, sized-rest}
+use Rattle.paper.proofs.steps.Leave.{with-bins}
+use Rattle.paper.proofs.bins.Listed.{Loose, loose}
+use Rattle.paper.proofs.runs.Neighbours.{Run}
+use Rattle.paper.proofs.sheet.Phases.{Step, step-write}
+use Rattle.paper.proofs.keeps.Settled.{fewer, giveBackLarge-settles, intoRemainder, joined, joined-total, run-ends, settle-joins}
+use Rattle.paper.proofs.runs.Splitting.{sized-mid-parts}
+use Rattle.paper.proofs.reads.Stands.{Stands}
+use Rattle.paper.proofs.sheet.Stores.{puts}
+use Rattle.paper.proofs.runs.Walk.{freeSum-append, freeSum-le, sized-eight, total-append}
+use Rattle.paper.proofs.sheet.Written.{holds-word, write-over}
 use Rattle.paper.specs.Blocks.{Block, State, block, blocks, end, freeSum, remainder, total}
 use Rattle.paper.specs.GivingBack.{giveBackLarge, settle as settle-state}
 use Rattle.paper.specs.Governed.{headWord, headerWord, sheet}

@@ -14,9 +14,9 @@ use Rattle.giveback.proofs.RunShape.{in-above, in-over}
 use Rattle.giveback.specs.Large.{joinRun, leaveBelow, leaveBoth, settle}
 use Rattle.giveback.specs.Small.{earned}
 use Rattle.heads.specs.Heads.{headOf, withP}
-use Rattle.paper.proofs.Neighbours.{Run, gap}
-use Rattle.paper.proofs.Stands.{Stands}
-use Rattle.paper.proofs.Walk.{flagPast, in-high}
+use Rattle.paper.proofs.runs.Neighbours.{Run, gap}
+use Rattle.paper.proofs.reads.Stands.{Stands}
+use Rattle.paper.proofs.runs.Walk.{flagPast, in-high}
 use Rattle.paper.specs.Blocks.{Block, State, block, blocks, free, held}
 use Rattle.paper.specs.GivingBack.{giveBackLarge}
 use Rattle.paper.specs.Governed.{headWord, sheet}

@@ -10,19 +10,19 @@ use Rattle.giveback.proofs.RunShape.{flag-run, flag-some, flag-under, u
 use Rattle.giveback.proofs.Settling.{good-above, head-above, settled, step-above, step-quiet}
 use Rattle.giveback.specs.Large.{settle}
 use Rattle.giveback.specs.Small.{earned}
-use Rattle.paper.proofs.BackLargeKeeps.{run-keeps}
-use Rattle.paper.proofs.Fields.{at-head}
-use Rattle.paper.proofs.Join.{joined as joined-state, unjoined}
-use Rattle.paper.proofs.Kept.{Kept, sized-low, sized-rest}
-use Rattle.paper.proofs.Leave.{with-bins}
-use Rattle.paper.proofs.LinkWords.{enter-grows}
-use Rattle.paper.proofs.Listed.{Loose, loose}
-use Rattle.paper.proofs.Neighbours.{Run, gap, gap-none, gap-some}
-use Rattle.paper.proofs.Settled.{fewer, giveBackLarge-settles, joined, joined-total, run-ends, settle-enters}
-use Rattle.paper.proofs.Splitting.{sized-mid-parts}
-use Rattle.paper.proofs.Stands.{Stands}
-use Rattle.paper.proofs.Walk.{In, flagPast, freeSum-append, in-left, in-mid, sized-eight}
-use Rattle.paper.proofs.Written.{write-over}
+use Rattle.paper.proofs.keeps.BackLargeKeeps.{run-keeps}
+use Rattle.paper.proofs.sheet.Fields.{at-head}
+use Rattle.paper.proofs.steps.Join.{joined as joined-state, unjoined}
+use Rattle.paper.proofs.keeps.Kept.{Kept, sized-low, sized-rest}
+use Rattle.paper.proofs.steps.Leave.{with-bins}
+use Rattle.paper.proofs.steps.LinkWords.{enter-grows}
+use Rattle.paper.proofs.bins.Listed.{Loose, loose}
+use Rattle.paper.proofs.runs.Neighbours.{Run, gap, gap-none, gap-some}
+use Rattle.paper.proofs.keeps.Settled.{fewer, giveBackLarge-settles, joined, joined-total, run-ends, settle-enters}
+use Rattle.paper.proofs.runs.Splitting.{sized-mid-parts}
+use Rattle.paper.proofs.reads.Stands.{Stands}
+use Rattle.paper.proofs.runs.Walk.{In, flagPast, freeSum-append, in-left, in-mid, sized-eight}
+use Rattle.paper.proofs.sheet.Written.{write-over}
 use Rattle.paper.specs.Bins.{rebin, enter as enter-list}
 use Rattle.paper.specs.Blocks.{Block, State, block, blocks, end, freeSum, held, remainder, total}
 use Rattle.paper.specs.GivingBack.{giveBackLarge, settle as settle-state}

@@ -8,12 +8,12 @@ use Rattle.bins.specs.Leave.{leave}
 use Rattle.giveback.proofs.Left.{Left, both-left, none-left, one-left}
 use Rattle.giveback.proofs.RunShape.{above-listed, below-listed, down-large, up-large}
 use Rattle.giveback.specs.Large.{leaveBelow, leaveBoth, restored}
-use Rattle.paper.proofs.BinLaws.{count-rebin-leave}
-use Rattle.paper.proofs.Listed.{Loose, loose}
-use Rattle.paper.proofs.Members.{leave-member, split-member}
-use Rattle.paper.proofs.Neighbours.{Run, left-none, left-some}
-use Rattle.paper.proofs.Settled.{fewer}
-use Rattle.paper.proofs.Stands.{Stands}
+use Rattle.paper.proofs.bins.BinLaws.{count-rebin-leave}
+use Rattle.paper.proofs.bins.Listed.{Loose, loose}
+use Rattle.paper.proofs.bins.Members.{leave-member, split-member}
+use Rattle.paper.proofs.runs.Neighbours.{Run, left-none, left-some}
+use Rattle.paper.proofs.keeps.Settled.{fewer}
+use Rattle.paper.proofs.reads.Stands.{Stands}
 use Rattle.paper.specs.Bins.{count, rebin, leave as leave-list}
 use Rattle.paper.specs.Blocks.{State}
 use Rattle.paper.specs.GivingBack.{left}

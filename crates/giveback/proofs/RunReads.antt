@@ -8,11 +8,11 @@ use Rattle.giveback.proofs.HeadWords.{free-size, held-P, held-no-P}
 use Rattle.giveback.proofs.RunShape.{down-large, flag-none, flag-some, in-above, in-below, in-held, in-over}
 use Rattle.giveback.specs.Large.{runStart}
 use Rattle.heads.specs.Heads.{headOf}
-use Rattle.paper.proofs.Fields.{at-foot}
-use Rattle.paper.proofs.Neighbours.{Run, gap}
-use Rattle.paper.proofs.Readings.{head-reads, low-reads, reads}
-use Rattle.paper.proofs.Stands.{Stands}
-use Rattle.paper.proofs.Walk.{flagPast, in-aligned, in-high}
+use Rattle.paper.proofs.sheet.Fields.{at-foot}
+use Rattle.paper.proofs.runs.Neighbours.{Run, gap}
+use Rattle.paper.proofs.reads.Readings.{head-reads, low-reads, reads}
+use Rattle.paper.proofs.reads.Stands.{Stands}
+use Rattle.paper.proofs.runs.Walk.{flagPast, in-aligned, in-high}
 use Rattle.paper.specs.Blocks.{Block, State, block, blocks, free, held}
 use Rattle.paper.specs.Governed.{headWord, sheet}
 use Rattle.paper.specs.Granting.{R}

@@ -4,13 +4,13 @@ use mathlib.Core.Logic.{_≢_, _⊎_, inl, inr}
 use mathlib.Core.Path.{_∙_, _≡_, ap, refl, subst, sym}
 use Prim.Native.Nat.{_+_, _-_, _≤_, ℕ}
 use native.Mathlib.Omega.{arith}
-use Rattle.paper.proofs.Flags.{flag-append, low-flag}
-use Rattle.paper.proofs.Neighbours.{Run, gap, gap-none, gap-some, gap-total}
-use Rattle.paper.proofs.Places.{low-large}
-use Rattle.paper.proofs.Settled.{joined, joined-total}
-use Rattle.paper.proofs.Shapes.{NotFree, low-held}
-use Rattle.paper.proofs.Splitting.{total-mid}
-use Rattle.paper.proofs.Walk.{In, flagPast, in-left, in-mid}
+use Rattle.paper.proofs.runs.Flags.{flag-append, low-flag}
+use Rattle.paper.proofs.runs.Neighbours.{Run, gap, gap-none, gap-some, gap-total}
+use Rattle.paper.proofs.runs.Places.{low-large}
+use Rattle.paper.proofs.keeps.Settled.{joined, joined-total}
+use Rattle.paper.proofs.runs.Shapes.{NotFree, low-held}
+use Rattle.paper.proofs.runs.Splitting.{total-mid}
+use Rattle.paper.proofs.runs.Walk.{In, flagPast, in-left, in-mid}
 use Rattle.paper.specs.Bins.{count}
 use Rattle.paper.specs.Blocks.{Block, State, block, blocks, free, held, remainder, size, total}
 use Rattle.paper.specs.Governed.{flagAbove}

@@ -13,15 +13,15 @@ use Rattle.bins.proofs.FreeBytes.{makeFree-stores}
 use Rattle.bins.specs.Enter.{enter}
 use Rattle.giveback.specs.Large.{settle}
 use Rattle.giveback.specs.Small.{earned}
-use Rattle.paper.proofs.BinLaws.{count-enter-self, count-rebin-enter}
-use Rattle.paper.proofs.FreeWordLast.{Past, free-word-reads, good-keeps, past-word, puts-append}
-use Rattle.paper.proofs.Join.{end-join, join-good, join-puts, join-step, joined, unjoined}
-use Rattle.paper.proofs.Listed.{Loose, rebin-same}
-use Rattle.paper.proofs.Phases.{Step, step-holds}
-use Rattle.paper.proofs.Splitting.{freeSum-mid}
-use Rattle.paper.proofs.Stores.{Good, length-puts, puts}
-use Rattle.paper.proofs.Walk.{In, flagPast, freeSum-append, freeSum-le, in-high, in-left, in-mid}
-use Rattle.paper.proofs.Written.{write-over}
+use Rattle.paper.proofs.bins.BinLaws.{count-enter-self, count-rebin-enter}
+use Rattle.paper.proofs.sheet.FreeWordLast.{Past, free-word-reads, good-keeps, past-word, puts-append}
+use Rattle.paper.proofs.steps.Join.{end-join, join-good, join-puts, join-step, joined, unjoined}
+use Rattle.paper.proofs.bins.Listed.{Loose, rebin-same}
+use Rattle.paper.proofs.sheet.Phases.{Step, step-holds}
+use Rattle.paper.proofs.runs.Splitting.{freeSum-mid}
+use Rattle.paper.proofs.sheet.Stores.{Good, length-puts, puts}
+use Rattle.paper.proofs.runs.Walk.{In, flagPast, freeSum-append, freeSum-le, in-high, in-left, in-mid}
+use Rattle.paper.proofs.sheet.Written.{write-over}
 use Rattle.paper.specs.Bins.{count, rebin, enter as enter-list}
 use Rattle.paper.specs.Blocks.{Block, State, block, blocks, end, free, freeSum, held, remainder, total}
 use Rattle.paper.specs.Governed.{headWord, sheet}

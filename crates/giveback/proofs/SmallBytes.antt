@@ -9,24 +9,24 @@ use native.Mathlib.Nat.{add-comm}
 use native.Mathlib.Omega.{arith}
 use Rattle.bins.proofs.FreeBytes.{freeHead-is}
 use Rattle.giveback.specs.Small.{earned, giveBackSmall}
-use Rattle.paper.proofs.BackSmallKeeps.{giveBackSmall-is, giveBackSmall-keeps}
-use Rattle.paper.proofs.Enter.{rebin-back}
-use Rattle.paper.proofs.Fields.{at-block, at-head}
-use Rattle.paper.proofs.Flags.{flag-append, high-flag}
-use Rattle.paper.proofs.FreeWordLast.{free-word-reads, past-word}
-use Rattle.paper.proofs.HeldPlaces.{HeldHigh}
-use Rattle.paper.proofs.Kept.{Kept, sized-high, sized-rest}
-use Rattle.paper.proofs.Leave.{NothingNew, nothing-new-trans}
-use Rattle.paper.proofs.Leaving.{rebinned}
-use Rattle.paper.proofs.Listed.{Loose, loose, rebin-same}
-use Rattle.paper.proofs.LowHigh.{high-parts}
-use Rattle.paper.proofs.Readings.{end-big, small-reads}
-use Rattle.paper.proofs.Segment.{after-same, seg-frame}
-use Rattle.paper.proofs.SmallBins.{small-frame}
-use Rattle.paper.proofs.Splitting.{sized-mid-parts}
-use Rattle.paper.proofs.Stands.{Stands}
-use Rattle.paper.proofs.Stores.{Elsewhere, Good, finish, puts}
-use Rattle.paper.proofs.Walk.{In, flagPast, freeSum-append, freeSum-le, in-aligned, in-high, in-mid, total-append}
+use Rattle.paper.proofs.keeps.BackSmallKeeps.{giveBackSmall-is, giveBackSmall-keeps}
+use Rattle.paper.proofs.steps.Enter.{rebin-back}
+use Rattle.paper.proofs.sheet.Fields.{at-block, at-head}
+use Rattle.paper.proofs.runs.Flags.{flag-append, high-flag}
+use Rattle.paper.proofs.sheet.FreeWordLast.{free-word-reads, past-word}
+use Rattle.paper.proofs.runs.HeldPlaces.{HeldHigh}
+use Rattle.paper.proofs.keeps.Kept.{Kept, sized-high, sized-rest}
+use Rattle.paper.proofs.steps.Leave.{NothingNew, nothing-new-trans}
+use Rattle.paper.proofs.steps.Leaving.{rebinned}
+use Rattle.paper.proofs.bins.Listed.{Loose, loose, rebin-same}
+use Rattle.paper.proofs.runs.LowHigh.{high-parts}
+use Rattle.paper.proofs.reads.Readings.{end-big, small-reads}
+use Rattle.paper.proofs.steps.Segment.{after-same, seg-frame}
+use Rattle.paper.proofs.steps.SmallBins.{small-frame}
+use Rattle.paper.proofs.runs.Splitting.{sized-mid-parts}
+use Rattle.paper.proofs.reads.Stands.{Stands}
+use Rattle.paper.proofs.sheet.Stores.{Elsewhere, Good, finish, puts}
+use Rattle.paper.proofs.runs.Walk.{In, flagPast, freeSum-append, freeSum-le, in-aligned, in-high, in-mid, total-append}
 use Rattle.paper.specs.Bins.{first, nextIn, rebin}
 use Rattle.paper.specs.Blocks.{Block, State, block, blocks, end, free, freeSum, held, remainder, total}
 use Rattle.paper.specs.GivingBack.{giveBackSmall as giveBackSmall-state}

@@ -3,16 +3,16 @@ use mathlib.Core.List.{List, _++_, _∷_, append-assoc}
 use mathlib.Core.Logic.{_≢_, inl, inr}
 use mathlib.Core.Path.{_∙_, _≡_, ap, refl, subst, sym}
 use Prim.Native.Nat.{_%_, _+_, _≤_, ℕ}
-use Rattle.paper.proofs.BinLaws.{used-counts-where-first}
-use Rattle.paper.proofs.Flags.{low-flag}
-use Rattle.paper.proofs.Kept.{Kept, sized-low}
-use Rattle.paper.proofs.Listed.{loose, start}
-use Rattle.paper.proofs.LooseReads.{listed-size}
-use Rattle.paper.proofs.Places.{used-in-low}
-use Rattle.paper.proofs.Shapes.{low-free}
-use Rattle.paper.proofs.Splitting.{in-is, in-replace, in-starts}
-use Rattle.paper.proofs.TakeLargeKeeps.{takeLarge-keeps}
-use Rattle.paper.proofs.Walk.{In, flagPast, in-mid}
+use Rattle.paper.proofs.bins.BinLaws.{used-counts-where-first}
+use Rattle.paper.proofs.runs.Flags.{low-flag}
+use Rattle.paper.proofs.keeps.Kept.{Kept, sized-low}
+use Rattle.paper.proofs.bins.Listed.{loose, start}
+use Rattle.paper.proofs.reads.LooseReads.{listed-size}
+use Rattle.paper.proofs.runs.Places.{used-in-low}
+use Rattle.paper.proofs.runs.Shapes.{low-free}
+use Rattle.paper.proofs.runs.Splitting.{in-is, in-replace, in-starts}
+use Rattle.paper.proofs.keeps.TakeLargeKeeps.{takeLarge-keeps}
+use Rattle.paper.proofs.runs.Walk.{In, flagPast, in-mid}
 use Rattle.paper.specs.Bins.{first, used}
 use Rattle.paper.specs.Blocks.{Block, State, block, blocks, end, free, held, remainder, total}
 use Rattle.paper.specs.Granting.{Result, smallestBin, takeLarge, takePart, takeWhole}

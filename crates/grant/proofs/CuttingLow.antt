@@ -6,11 +6,11 @@ use mathlib.Core.Path.{_∙_, _≡_, ap, refl, subst, sym}
 use Prim.Native.Nat.{_%_, _+_, _-_, _/_, _<_, _≤_, ℕ}
 use native.Mathlib.Omega.{arith}
 use lib.ListN.{length}
-use Rattle.paper.proofs.Fields.{at-head}
-use Rattle.paper.proofs.Leave.{NothingNew}
-use Rattle.paper.proofs.Segment.{after-same, seg-frame}
-use Rattle.paper.proofs.Stores.{Elsewhere, Good, finish, puts}
-use Rattle.paper.proofs.Walk.{In, flagPast, freeSum-append, in-mid, total-append}
+use Rattle.paper.proofs.sheet.Fields.{at-head}
+use Rattle.paper.proofs.steps.Leave.{NothingNew}
+use Rattle.paper.proofs.steps.Segment.{after-same, seg-frame}
+use Rattle.paper.proofs.sheet.Stores.{Elsewhere, Good, finish, puts}
+use Rattle.paper.proofs.runs.Walk.{In, flagPast, freeSum-append, in-mid, total-append}
 use Rattle.paper.specs.Blocks.{State, block, blocks, end, freeSum, held, remainder, total}
 use Rattle.paper.specs.Governed.{headWord, headerWord, sheet, walk}
 use Rattle.paper.specs.Granting.{R}

@@ -5,9 +5,9 @@ use Prim.Native.Nat.{_%_, _+_, _-_, _≤_, ℕ}
 use native.Mathlib.Nat.{add-comm}
 use native.Mathlib.Omega.{arith}
 use Rattle.grant.specs.Small.{restOf}
-use Rattle.paper.proofs.Readings.{header-reads, low-reads, rest-reads, small-reads}
-use Rattle.paper.proofs.Stands.{Stands}
-use Rattle.paper.proofs.Walk.{freeSum-le, total-append}
+use Rattle.paper.proofs.reads.Readings.{header-reads, low-reads, rest-reads, small-reads}
+use Rattle.paper.proofs.reads.Stands.{Stands}
+use Rattle.paper.proofs.runs.Walk.{freeSum-le, total-append}
 use Rattle.paper.specs.Bins.{first}
 use Rattle.paper.specs.Blocks.{State, block, blocks, freeSum, remainder}
 use Rattle.paper.specs.Governed.{headerWord}

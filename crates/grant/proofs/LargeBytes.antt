@@ -13,12 +13,12 @@ use Rattle.grant.proofs.LowBytes.{cutLow-bytes}
 use Rattle.grant.proofs.PartBytes.{takePart-bytes}
 use Rattle.grant.proofs.WholeBytes.{takeWhole-bytes}
 use Rattle.grant.specs.Large.{takeLarger, cutLow as cutLow-model, takeLarge as takeLarge-model, takePart as takePart-model, takeWhole as takeWhole-model}
-use Rattle.paper.proofs.Bins.{first-count}
-use Rattle.paper.proofs.First.{Pred, reach-at}
-use Rattle.paper.proofs.Kept.{Kept}
-use Rattle.paper.proofs.Listed.{Loose, loose}
-use Rattle.paper.proofs.LooseReads.{height-pos}
-use Rattle.paper.proofs.Stands.{Stands}
+use Rattle.paper.proofs.bins.Bins.{first-count}
+use Rattle.paper.proofs.steps.First.{Pred, reach-at}
+use Rattle.paper.proofs.keeps.Kept.{Kept}
+use Rattle.paper.proofs.bins.Listed.{Loose, loose}
+use Rattle.paper.proofs.reads.LooseReads.{height-pos}
+use Rattle.paper.proofs.reads.Stands.{Stands}
 use Rattle.paper.specs.Bins.{first}
 use Rattle.paper.specs.Blocks.{State, end}
 use Rattle.paper.specs.Calls.{leaves}

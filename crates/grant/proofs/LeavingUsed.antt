@@ -15,19 +15,19 @@ use Rattle.grant.proofs.Phasing.{free-word-read, write-past}
 use Rattle.grant.proofs.Spending.{spent-stores}
 use Rattle.grant.specs.Large.{leaveBin, leaver}
 use Rattle.grant.specs.Small.{spent}
-use Rattle.paper.proofs.Bins.{count-append, count-cons, count-here, count-nil, lastOr}
-use Rattle.paper.proofs.EnterStep.{split-first}
-use Rattle.paper.proofs.First.{Pred}
-use Rattle.paper.proofs.FreeWordLast.{Past}
-use Rattle.paper.proofs.LeaveStep.{leave-puts, leave-step}
-use Rattle.paper.proofs.Leaving.{leaving-loose, rebinned}
-use Rattle.paper.proofs.LinkWords.{Grow, Words, leave-words, out-words}
-use Rattle.paper.proofs.Listed.{Loose, loose}
-use Rattle.paper.proofs.Members.{leave-member}
-use Rattle.paper.proofs.Phases.{Step, step-holds}
-use Rattle.paper.proofs.Stands.{Stands}
-use Rattle.paper.proofs.Stores.{Elsewhere, length-puts, puts}
-use Rattle.paper.proofs.Walk.{freeSum-le}
+use Rattle.paper.proofs.bins.Bins.{count-append, count-cons, count-here, count-nil, lastOr}
+use Rattle.paper.proofs.steps.EnterStep.{split-first}
+use Rattle.paper.proofs.steps.First.{Pred}
+use Rattle.paper.proofs.sheet.FreeWordLast.{Past}
+use Rattle.paper.proofs.steps.LeaveStep.{leave-puts, leave-step}
+use Rattle.paper.proofs.steps.Leaving.{leaving-loose, rebinned}
+use Rattle.paper.proofs.steps.LinkWords.{Grow, Words, leave-words, out-words}
+use Rattle.paper.proofs.bins.Listed.{Loose, loose}
+use Rattle.paper.proofs.bins.Members.{leave-member}
+use Rattle.paper.proofs.sheet.Phases.{Step, step-holds}
+use Rattle.paper.proofs.reads.Stands.{Stands}
+use Rattle.paper.proofs.sheet.Stores.{Elsewhere, length-puts, puts}
+use Rattle.paper.proofs.runs.Walk.{freeSum-le}
 use Rattle.paper.specs.Bins.{count, first, rebin, used, leave as leave-list}
 use Rattle.paper.specs.Blocks.{State, blocks, end, freeSum}
 use Rattle.paper.specs.Governed.{height, sheet}

@@ -10,11 +10,11 @@ use Rattle.grant.proofs.Spending.{spent-stores}
 use Rattle.grant.specs.Large.{cutStart, cutLow as cutLow-model}
 use Rattle.grant.specs.Small.{payload, restOf, spent}
 use Rattle.heads.specs.Heads.{freeHead, heldHead}
-use Rattle.paper.proofs.Flags.{low-flag}
-use Rattle.paper.proofs.Kept.{sized-low, sized-rest}
-use Rattle.paper.proofs.Stands.{Stands}
-use Rattle.paper.proofs.Stores.{puts}
-use Rattle.paper.proofs.Walk.{flagPast, freeSum-append, sized-eight}
+use Rattle.paper.proofs.runs.Flags.{low-flag}
+use Rattle.paper.proofs.keeps.Kept.{sized-low, sized-rest}
+use Rattle.paper.proofs.reads.Stands.{Stands}
+use Rattle.paper.proofs.sheet.Stores.{puts}
+use Rattle.paper.proofs.runs.Walk.{flagPast, freeSum-append, sized-eight}
 use Rattle.paper.specs.Answers.{no-room, out}
 use Rattle.paper.specs.Blocks.{State, block, blocks, freeSum, held, remainder}
 use Rattle.paper.specs.Calls.{leaves}

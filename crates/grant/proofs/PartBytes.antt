@@ -19,17 +19,17 @@ use Rattle.grant.proofs.Phasing.{write-fitting}
 use Rattle.grant.proofs.HeadWords.{heldHead-is}
 use Rattle.grant.specs.Large.{leaveBin, split, takePart as takePart-model}
 use Rattle.grant.specs.Small.{payload, spent}
-use Rattle.paper.proofs.BinLaws.{count-rebin-enter}
-use Rattle.paper.proofs.Bins.{first-count}
-use Rattle.paper.proofs.First.{Pred}
-use Rattle.paper.proofs.FreeWordLast.{Past, past-put, past-word}
-use Rattle.paper.proofs.Kept.{Kept}
-use Rattle.paper.proofs.LinkWords.{enter-grows}
-use Rattle.paper.proofs.Listed.{Loose, loose}
-use Rattle.paper.proofs.Phases.{Step, step-holds}
-use Rattle.paper.proofs.Stands.{Stands}
-use Rattle.paper.proofs.Stores.{Good, length-puts, puts}
-use Rattle.paper.proofs.Walk.{In, freeSum-le}
+use Rattle.paper.proofs.bins.BinLaws.{count-rebin-enter}
+use Rattle.paper.proofs.bins.Bins.{first-count}
+use Rattle.paper.proofs.steps.First.{Pred}
+use Rattle.paper.proofs.sheet.FreeWordLast.{Past, past-put, past-word}
+use Rattle.paper.proofs.keeps.Kept.{Kept}
+use Rattle.paper.proofs.steps.LinkWords.{enter-grows}
+use Rattle.paper.proofs.bins.Listed.{Loose, loose}
+use Rattle.paper.proofs.sheet.Phases.{Step, step-holds}
+use Rattle.paper.proofs.reads.Stands.{Stands}
+use Rattle.paper.proofs.sheet.Stores.{Good, length-puts, puts}
+use Rattle.paper.proofs.runs.Walk.{In, freeSum-le}
 use Rattle.paper.specs.Answers.{out}
 use Rattle.paper.specs.Bins.{count, enter, first, rebin, used}
 use Rattle.paper.specs.Blocks.{State, block, blocks, end, free, freeSum, held, total}

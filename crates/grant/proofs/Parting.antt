@@ -7,13 +7,13 @@ use mathlib.Core.Path.{_∙_, _≡_, ap, refl, subst, sym}
 use Prim.Native.Nat.{_%_, _+_, _-_, _/_, _<_, _≤_, ℕ}
 use native.Mathlib.Nat.{add-zero}
 use native.Mathlib.Omega.{arith}
-use Rattle.paper.proofs.Bins.{first-count, next-absent, prev-absent}
-use Rattle.paper.proofs.Fields.{at-foot, at-head}
-use Rattle.paper.proofs.Leave.{NothingNew}
-use Rattle.paper.proofs.Phases.{Step}
-use Rattle.paper.proofs.Segment.{after-same, seg-frame}
-use Rattle.paper.proofs.Stores.{Elsewhere, Good}
-use Rattle.paper.proofs.Walk.{In, flagPast, freeSum-append, in-mid, total-append}
+use Rattle.paper.proofs.bins.Bins.{first-count, next-absent, prev-absent}
+use Rattle.paper.proofs.sheet.Fields.{at-foot, at-head}
+use Rattle.paper.proofs.steps.Leave.{NothingNew}
+use Rattle.paper.proofs.sheet.Phases.{Step}
+use Rattle.paper.proofs.steps.Segment.{after-same, seg-frame}
+use Rattle.paper.proofs.sheet.Stores.{Elsewhere, Good}
+use Rattle.paper.proofs.runs.Walk.{In, flagPast, freeSum-append, in-mid, total-append}
 use Rattle.paper.specs.Bins.{count, first}
 use Rattle.paper.specs.Blocks.{Block, State, block, blocks, end, free, freeSum, held, remainder, total}
 use Rattle.paper.specs.Governed.{blockWord, headWord, headerWord, largeWord, link, sheet, walk}

@@ -5,13 +5,13 @@ use mathlib.Core.Path.{_≡_, refl}
 use Prim.Native.Nat.{_%_, _*_, _-_, _/_, _<_, _≤_, ℕ}
 use native.Mathlib.Omega.{arith}
 use lib.ListN.{length}
-use Rattle.paper.proofs.FreeWordLast.{good-keeps}
-use Rattle.paper.proofs.LooseReads.{word-reads}
-use Rattle.paper.proofs.Listed.{Loose}
-use Rattle.paper.proofs.Phases.{Step, step-keeps}
-use Rattle.paper.proofs.Stores.{Elsewhere, Good, length-puts, puts}
-use Rattle.paper.proofs.Walk.{freeSum-le}
-use Rattle.paper.proofs.Written.{write-over}
+use Rattle.paper.proofs.sheet.FreeWordLast.{good-keeps}
+use Rattle.paper.proofs.reads.LooseReads.{word-reads}
+use Rattle.paper.proofs.bins.Listed.{Loose}
+use Rattle.paper.proofs.sheet.Phases.{Step, step-keeps}
+use Rattle.paper.proofs.sheet.Stores.{Elsewhere, Good, length-puts, puts}
+use Rattle.paper.proofs.runs.Walk.{freeSum-le}
+use Rattle.paper.proofs.sheet.Written.{write-over}
 use Rattle.paper.specs.Blocks.{State, blocks, end, freeSum}
 use Rattle.paper.specs.Governed.{headerWord, sheet}
 use Rattle.paper.specs.Sheet.{Holds, Sheet, write}

@@ -6,20 +6,20 @@ use mathlib.Core.Path.{_∙_, _≡_, ap, refl, subst, sym}
 use Prim.Native.Nat.{_%_, _+_, _-_, _/_, _<_, _≤_, ℕ}
 use native.Mathlib.Omega.{arith}
 use lib.ListN.{length}
-use Rattle.paper.proofs.Bins.{count-here, next-absent}
-use Rattle.paper.proofs.Fields.{at-head}
-use Rattle.paper.proofs.Flags.{high-flag}
-use Rattle.paper.proofs.Kept.{sized-high, sized-rest}
-use Rattle.paper.proofs.Leave.{NothingNew, nothing-new-trans}
-use Rattle.paper.proofs.Leaving.{rebinned}
-use Rattle.paper.proofs.Listed.{loose, rebin-same, start}
-use Rattle.paper.proofs.LowHigh.{high-parts}
-use Rattle.paper.proofs.Places.{first-in-high}
-use Rattle.paper.proofs.Segment.{after-same, seg-frame}
-use Rattle.paper.proofs.SmallBins.{small-frame}
-use Rattle.paper.proofs.Splitting.{in-is, in-replace, in-starts}
-use Rattle.paper.proofs.Stores.{Elsewhere, Good, finish, puts}
-use Rattle.paper.proofs.Walk.{In, flagPast, freeSum-append, in-mid, total-append}
+use Rattle.paper.proofs.bins.Bins.{count-here, next-absent}
+use Rattle.paper.proofs.sheet.Fields.{at-head}
+use Rattle.paper.proofs.runs.Flags.{high-flag}
+use Rattle.paper.proofs.keeps.Kept.{sized-high, sized-rest}
+use Rattle.paper.proofs.steps.Leave.{NothingNew, nothing-new-trans}
+use Rattle.paper.proofs.steps.Leaving.{rebinned}
+use Rattle.paper.proofs.bins.Listed.{loose, rebin-same, start}
+use Rattle.paper.proofs.runs.LowHigh.{high-parts}
+use Rattle.paper.proofs.runs.Places.{first-in-high}
+use Rattle.paper.proofs.steps.Segment.{after-same, seg-frame}
+use Rattle.paper.proofs.steps.SmallBins.{small-frame}
+use Rattle.paper.proofs.runs.Splitting.{in-is, in-replace, in-starts}
+use Rattle.paper.proofs.sheet.Stores.{Elsewhere, Good, finish, puts}
+use Rattle.paper.proofs.runs.Walk.{In, flagPast, freeSum-append, in-mid, total-append}
 use Rattle.paper.specs.Bins.{count, first}
 use Rattle.paper.specs.Blocks.{Block, State, block, blocks, end, free, freeSum, held, remainder, total}
 use Rattle.paper.specs.Governed.{headWord, headerWord, sheet, walk}

@@ -10,14 +10,14 @@ use Rattle.grant.proofs.Popping.{pop-place, pop-puts, pop-room, pop-wri
 use Rattle.grant.proofs.Spending.{spent-stores}
 use Rattle.grant.specs.Small.{cutAt, payload, restOf, spent, cutHigh as cutHigh-model, pop as pop-model, takeSmall as takeSmall-model}
 use Rattle.heads.specs.Heads.{freeHead}
-use Rattle.paper.proofs.Bins.{count-here}
-use Rattle.paper.proofs.Cut.{cut, cut-puts, take-cut}
-use Rattle.paper.proofs.Flags.{low-flag}
-use Rattle.paper.proofs.Kept.{sized-low, sized-rest}
-use Rattle.paper.proofs.Readings.{next-reads}
-use Rattle.paper.proofs.Stands.{Stands}
-use Rattle.paper.proofs.Stores.{puts}
-use Rattle.paper.proofs.Walk.{flagPast, freeSum-append, sized-eight}
+use Rattle.paper.proofs.bins.Bins.{count-here}
+use Rattle.paper.proofs.steps.Cut.{cut, cut-puts, take-cut}
+use Rattle.paper.proofs.runs.Flags.{low-flag}
+use Rattle.paper.proofs.keeps.Kept.{sized-low, sized-rest}
+use Rattle.paper.proofs.reads.Readings.{next-reads}
+use Rattle.paper.proofs.reads.Stands.{Stands}
+use Rattle.paper.proofs.sheet.Stores.{puts}
+use Rattle.paper.proofs.runs.Walk.{flagPast, freeSum-append, sized-eight}
 use Rattle.paper.specs.Answers.{no-room, out}
 use Rattle.paper.specs.Bins.{count, first, nextIn}
 use Rattle.paper.specs.Blocks.{State, block, blocks, freeSum, held, remainder}

@@ -4,8 +4,8 @@ use mathlib.Core.Path.{_∙_, _≡_}
 use Prim.Native.Nat.{_-_, _≤_, ℕ}
 use native.Mathlib.Omega.{arith}
 use Rattle.grant.specs.Small.{spent}
-use Rattle.paper.proofs.FreeWordLast.{Past, past-put, past-word}
-use Rattle.paper.proofs.Stores.{puts}
+use Rattle.paper.proofs.sheet.FreeWordLast.{Past, past-put, past-word}
+use Rattle.paper.proofs.sheet.Stores.{puts}
 use Rattle.words.specs.Sums.{minus}
 use Rattle.words.specs.Words.{wordAt}
 

@@ -8,11 +8,11 @@ use Rattle.grant.proofs.LargeBytes.{takeLarge-bytes}
 use Rattle.grant.proofs.SmallBytes.{takeSmall-bytes}
 use Rattle.grant.specs.Take.{take as take-model}
 use Rattle.heads.specs.Heads.{blockSize}
-use Rattle.paper.proofs.Bins.{first-count}
-use Rattle.paper.proofs.Listed.{loose, start}
-use Rattle.paper.proofs.Stands.{Stands}
-use Rattle.paper.proofs.TakeKeeps.{blockSize-eights, blockSize-least}
-use Rattle.paper.proofs.TakeLargeKeeps.{smallestBin-found}
+use Rattle.paper.proofs.bins.Bins.{first-count}
+use Rattle.paper.proofs.bins.Listed.{loose, start}
+use Rattle.paper.proofs.reads.Stands.{Stands}
+use Rattle.paper.proofs.keeps.TakeKeeps.{blockSize-eights, blockSize-least}
+use Rattle.paper.proofs.keeps.TakeLargeKeeps.{smallestBin-found}
 use Rattle.paper.specs.Answers.{no-room, no-size, out}
 use Rattle.paper.specs.Bins.{first}
 use Rattle.paper.specs.Blocks.{State}

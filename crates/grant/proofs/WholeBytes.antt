@@ -13,15 +13,15 @@ use Rattle.grant.proofs.HeadWords.{heldHead-is, withP-held}
 use Rattle.grant.specs.Large.{hold, leaveBin, takeWhole as takeWhole-model}
 use Rattle.grant.specs.Small.{payload, spent}
 use Rattle.heads.specs.Heads.{heldHead, withP}
-use Rattle.paper.proofs.First.{Pred}
-use Rattle.paper.proofs.Hold.{end-same, hold-frame, hold-good, hold-puts, hold-state}
-use Rattle.paper.proofs.Kept.{sized-rest}
-use Rattle.paper.proofs.Listed.{Loose, loose}
-use Rattle.paper.proofs.LooseReads.{head-word-reads}
-use Rattle.paper.proofs.Phases.{Step, step-write}
-use Rattle.paper.proofs.Stands.{Stands}
-use Rattle.paper.proofs.Stores.{Good, puts}
-use Rattle.paper.proofs.Walk.{freeSum-append, in-high}
+use Rattle.paper.proofs.steps.First.{Pred}
+use Rattle.paper.proofs.steps.Hold.{end-same, hold-frame, hold-good, hold-puts, hold-state}
+use Rattle.paper.proofs.keeps.Kept.{sized-rest}
+use Rattle.paper.proofs.bins.Listed.{Loose, loose}
+use Rattle.paper.proofs.reads.LooseReads.{head-word-reads}
+use Rattle.paper.proofs.sheet.Phases.{Step, step-write}
+use Rattle.paper.proofs.reads.Stands.{Stands}
+use Rattle.paper.proofs.sheet.Stores.{Good, puts}
+use Rattle.paper.proofs.runs.Walk.{freeSum-append, in-high}
 use Rattle.paper.specs.Answers.{out}
 use Rattle.paper.specs.Bins.{first, used}
 use Rattle.paper.specs.Blocks.{Kind, State, block, blocks, end, free, freeSum, held, remainder}

@@ -17,14 +17,14 @@ use Rattle.inspect.specs.Inspection.{cleared, false-tests, if-seen, insp
 use Rattle.inspect.specs.Lists.{Left, chain, if-left, large-tests, lists, nextBin, nextLarge, nextSmall, small-tests}
 use Rattle.inspect.specs.Runs.{Scanned, scan, seen, sizeAt, stray}
 use Rattle.inspect.specs.Tests.{guard, same}
-use Rattle.paper.proofs.Allowed.{allowed-yes}
-use Rattle.paper.proofs.Bins.{count-nil, first-count}
-use Rattle.paper.proofs.Distances.{followed-linkWord, linkWord-small}
-use Rattle.paper.proofs.Fields.{at-back, at-foot, at-level, at-word, false-word}
-use Rattle.paper.proofs.Listed.{freeAt-append, loose}
-use Rattle.paper.proofs.Readings.{end-big, head-reads, header-reads, low-reads, next-reads, no-zero, reads, rest-reads, small-reads, start-of, top-reads}
-use Rattle.paper.proofs.Seek.{seek-cong, seek-spec}
-use Rattle.paper.proofs.Walk.{In, flagPast, freeSum-append, freeSum-le, in-aligned, in-flag, in-high, in-left, in-mid, in-sized, sized-eight, sized-parts, total-append}
+use Rattle.paper.proofs.reads.Allowed.{allowed-yes}
+use Rattle.paper.proofs.bins.Bins.{count-nil, first-count}
+use Rattle.paper.proofs.bins.Distances.{followed-linkWord, linkWord-small}
+use Rattle.paper.proofs.sheet.Fields.{at-back, at-foot, at-level, at-word, false-word}
+use Rattle.paper.proofs.bins.Listed.{freeAt-append, loose}
+use Rattle.paper.proofs.reads.Readings.{end-big, head-reads, header-reads, low-reads, next-reads, no-zero, reads, rest-reads, small-reads, start-of, top-reads}
+use Rattle.paper.proofs.bins.Seek.{seek-cong, seek-spec}
+use Rattle.paper.proofs.runs.Walk.{In, flagPast, freeSum-append, freeSum-le, in-aligned, in-flag, in-high, in-left, in-mid, in-sized, sized-eight, sized-parts, total-append}
 use Rattle.paper.specs.Bins.{count, first, seek}
 use Rattle.paper.specs.Blocks.{Block, Kind, State, block, blocks, end, free, freeSum, held, remainder, total}
 use Rattle.paper.specs.Governed.{above, headWord, headerWord, height, index, link, reach, sheet}

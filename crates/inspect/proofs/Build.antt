@@ -17,11 +17,11 @@ use Rattle.inspect.specs.Inspection.{E, R, cleared, rest-tests}
 use Rattle.inspect.specs.Lists.{large-tests, nextLarge, nextSmall, small-tests}
 use Rattle.inspect.specs.Runs.{sizeAt, small}
 use Rattle.inspect.specs.Tests.{holds}
-use Rattle.paper.proofs.Bins.{count-nil}
-use Rattle.paper.proofs.Fields.{height-le}
-use Rattle.paper.proofs.Listed.{freeAt-append, freeAt-in}
-use Rattle.paper.proofs.Walk.{In, flagPast, freeSum-append, in-aligned, in-flag, in-high, in-low, in-sized, in-split, sized-append, total-append, walk-rel}
-use Rattle.paper.proofs.Written.{Ok, holds-from, ok-from}
+use Rattle.paper.proofs.bins.Bins.{count-nil}
+use Rattle.paper.proofs.sheet.Fields.{height-le}
+use Rattle.paper.proofs.bins.Listed.{freeAt-append, freeAt-in}
+use Rattle.paper.proofs.runs.Walk.{In, flagPast, freeSum-append, in-aligned, in-flag, in-high, in-low, in-sized, in-split, sized-append, total-append, walk-rel}
+use Rattle.paper.proofs.sheet.Written.{Ok, holds-from, ok-from}
 use Rattle.paper.specs.Allowed.{Allowed}
 use Rattle.paper.specs.Bins.{count, first, nextIn, prevIn}
 use Rattle.paper.specs.Blocks.{Block, Kind, State, block, free, freeSum, held, remainder, size, total}

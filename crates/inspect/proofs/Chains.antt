@@ -12,9 +12,9 @@ use Rattle.inspect.proofs.MarkLists.{Linked, follow-inv, linked-tests, 
 use Rattle.inspect.specs.Lists.{Left, chain, first-tests, follow, if-left, large-tests, left, lost, nextBin, nextLarge, nextSmall, small-tests, smalls}
 use Rattle.inspect.specs.Runs.{sizeAt}
 use Rattle.inspect.specs.Tests.{same}
-use Rattle.paper.proofs.Bins.{count-nil, first-count}
-use Rattle.paper.proofs.Listed.{rebin-other, rebin-same}
-use Rattle.paper.proofs.Seek.{seek-cong, seek-gap, seek-zero}
+use Rattle.paper.proofs.bins.Bins.{count-nil, first-count}
+use Rattle.paper.proofs.bins.Listed.{rebin-other, rebin-same}
+use Rattle.paper.proofs.bins.Seek.{seek-cong, seek-gap, seek-zero}
 use Rattle.paper.specs.Bins.{count, first, rebin, seek}
 use Rattle.paper.specs.Governed.{above}
 use Rattle.words.specs.Choice.{by<, by=, if=-no, if=-yes}

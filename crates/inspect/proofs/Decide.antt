@@ -20,9 +20,9 @@ use Rattle.inspect.specs.Inspection.{E, R, false-tests, if-seen, inspect
 use Rattle.inspect.specs.Lists.{chain, lists, nextBin, smalls}
 use Rattle.inspect.specs.Runs.{Scanned, scan, seen, stray}
 use Rattle.inspect.specs.Tests.{same}
-use Rattle.paper.proofs.Allowed.{allowed-inv}
-use Rattle.paper.proofs.Seek.{seek-cong}
-use Rattle.paper.proofs.Unique.{same-state}
+use Rattle.paper.proofs.reads.Allowed.{allowed-inv}
+use Rattle.paper.proofs.bins.Seek.{seek-cong}
+use Rattle.paper.proofs.reads.Unique.{same-state}
 use Rattle.paper.specs.Allowed.{Allowed}
 use Rattle.paper.specs.Bins.{first, seek}
 use Rattle.paper.specs.Blocks.{Block, freeSum, total}

@@ -11,7 +11,7 @@ use Rattle.inspect.proofs.Guards.{All, guard-inv, guard-yes}
 use Rattle.inspect.specs.Lists.{follow, left, lost}
 use Rattle.inspect.specs.MarkSets.{MarkSet}
 use Rattle.inspect.specs.Tests.{Test, less}
-use Rattle.paper.proofs.Bins.{count-cons, count-here, count-nil, count-there, empty, next-absent, prev-absent}
+use Rattle.paper.proofs.bins.Bins.{count-cons, count-here, count-nil, count-there, empty, next-absent, prev-absent}
 use Rattle.paper.specs.Bins.{count, first, nextIn, prevIn}
 use Rattle.words.specs.Choice.{by=, if=, if=-no, if=-yes, ifs}
 

@@ -14,8 +14,8 @@ use Rattle.inspect.proofs.MarkLists.{follow-yes, linked-empty, listMark
 use Rattle.inspect.specs.Lists.{Left, chain, first-tests, follow, if-left, large-tests, left, lost, nextBin, nextLarge, nextSmall, small-tests, smalls}
 use Rattle.inspect.specs.Runs.{sizeAt}
 use Rattle.inspect.specs.Tests.{same}
-use Rattle.paper.proofs.Bins.{count-nil, first-count, nil-of}
-use Rattle.paper.proofs.Seek.{seek-none, seek-spec}
+use Rattle.paper.proofs.bins.Bins.{count-nil, first-count, nil-of}
+use Rattle.paper.proofs.bins.Seek.{seek-none, seek-spec}
 use Rattle.paper.specs.Bins.{count, first, seek}
 use Rattle.words.specs.Choice.{by<, by=, if<, if<-no, if<-yes, if=-no, if=-yes}
 use Rattle.words.specs.Words.{wordAt}

@@ -9,8 +9,8 @@ use Rattle.inspect.proofs.Guards.{guard-inv, guard-yes}
 use Rattle.inspect.proofs.MarkLists.{listMarks}
 use Rattle.inspect.specs.Runs.{footAt, scan, seen, sizeAt, small, stray}
 use Rattle.inspect.specs.Tests.{Test, less, same}
-use Rattle.paper.proofs.Bins.{count-cons}
-use Rattle.paper.proofs.Walk.{In}
+use Rattle.paper.proofs.bins.Bins.{count-cons}
+use Rattle.paper.proofs.runs.Walk.{In}
 use Rattle.paper.specs.Bins.{count}
 use Rattle.paper.specs.Blocks.{Block, Kind, block, free, freeSum, held, remainder, size, total}
 use Rattle.paper.specs.Governed.{flagAbove, headWord}

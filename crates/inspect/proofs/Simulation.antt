@@ -15,8 +15,8 @@ use Rattle.inspect.specs.Runs.{Scanned, footAt, scan, seen, sizeAt, smal
 use Rattle.inspect.specs.Tests.{Test, guard, holds, less, same}
 use Rattle.marks.proofs.Laws.{bit-out, has-other, has-same, length-put}
 use Rattle.marks.specs.Marks.{bitAt, putBitAt}
-use Rattle.paper.proofs.Allowed.{allowed-inv}
-use Rattle.paper.proofs.Bins.{count-cons, count-nil, count-there}
+use Rattle.paper.proofs.reads.Allowed.{allowed-inv}
+use Rattle.paper.proofs.bins.Bins.{count-cons, count-nil, count-there}
 use Rattle.paper.specs.Bins.{count}
 use Rattle.words.specs.Choice.{by<, by=, if=, if=-no, if=-yes, ifs}
 use Rattle.words.specs.Words.{wordAt}

@@ -13,7 +13,7 @@ use Rattle.inspect.specs.Lists.{lists}
 use Rattle.inspect.specs.MarkSets.{bitMarks}
 use Rattle.inspect.specs.Runs.{Scanned}
 use Rattle.inspect.specs.Tests.{guard, holds, pass, same}
-use Rattle.paper.proofs.Allowed.{allowed-inv}
+use Rattle.paper.proofs.reads.Allowed.{allowed-inv}
 use Rattle.paper.specs.Allowed.{allowed}
 use Rattle.words.specs.Choice.{if=, if=-no, if=-yes}
 use Rattle.words.specs.Words.{wordAt}

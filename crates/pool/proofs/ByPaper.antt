@@ -15,11 +15,11 @@ use Rattle.paper.specs.Answers.{out, value, not-allowed, not-sound, not-held}
 use Rattle.paper.specs.Blocks.{State, block, blocks, held}
 use Rattle.paper.specs.Calls.{Reading, Reads, misfit, broken, sound, inspectCall, askCall, lendFrom, lendTo, figuresCall}
 use Rattle.paper.specs.GivingBack.{heldAt, ask as paperAsk}
-use Rattle.paper.proofs.HeldPlaces.{held-place, held-at-lies}
-use Rattle.paper.proofs.HeldWalk.{held-in}
-use Rattle.paper.proofs.Stands.{Stands}
-use Rattle.paper.proofs.Standing.{sound-stands}
-use Rattle.paper.proofs.Walk.{in-high, in-sized}
+use Rattle.paper.proofs.runs.HeldPlaces.{held-place, held-at-lies}
+use Rattle.paper.proofs.runs.HeldWalk.{held-in}
+use Rattle.paper.proofs.reads.Stands.{Stands}
+use Rattle.paper.proofs.reads.Standing.{sound-stands}
+use Rattle.paper.proofs.runs.Walk.{in-high, in-sized}
 use Rattle.walk.specs.LookUp.{heldAt as heldAtBytes}
 use Rattle.walk.proofs.HeldRead.{held-at-read}
 use Rattle.walk.proofs.FiguresRead.{figures-read}

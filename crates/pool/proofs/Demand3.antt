@@ -11,8 +11,8 @@ use Rattle.paper.specs.Answers.{not-allowed, not-sound}
 use Rattle.paper.specs.Calls.{Reading, Reads, misfit, broken, sound, inspectCall}
 use Rattle.paper.specs.Honest.{Honest}
 use Rattle.paper.specs.Sound.{Sound}
-use Rattle.paper.proofs.Accepted.{accepted-honest, honest-accepted}
-use Rattle.paper.proofs.PayloadWrites.{SameOutside, sound-same-outside}
+use Rattle.paper.proofs.honest.Accepted.{accepted-honest, honest-accepted}
+use Rattle.paper.proofs.reads.PayloadWrites.{SameOutside, sound-same-outside}
 use Rattle.pool.specs.Read.{read}
 use Rattle.pool.specs.Calls.{inspect}
 use Rattle.pool.proofs.Readings.{reads, reading-unique}

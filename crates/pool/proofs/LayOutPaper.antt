@@ -9,8 +9,8 @@ use native.Mathlib.Omega.{arith}
 use lib.ListN.{length}
 use Rattle.heads.specs.Heads.{freeHead, wordOf}
 use Rattle.heads.specs.Links.{linkWord}
-use Rattle.paper.proofs.Allowed.{allowed-inv}
-use Rattle.paper.proofs.Seek.{seek-zero}
+use Rattle.paper.proofs.reads.Allowed.{allowed-inv}
+use Rattle.paper.proofs.bins.Seek.{seek-zero}
 use Rattle.paper.specs.Allowed.{Allowed, allowed}
 use Rattle.paper.specs.Answers.{not-allowed, out}
 use Rattle.paper.specs.Bins.{first}

@@ -10,9 +10,9 @@ use Rattle.paper.specs.Allowed.{Allowed, allowed}
 use Rattle.paper.specs.Answers.{not-allowed, not-sound}
 use Rattle.paper.specs.Calls.{Reading, Reads, misfit, broken, sound}
 use Rattle.paper.specs.Sound.{Sound}
-use Rattle.paper.proofs.Allowed.{allowed-inv, allowed-yes}
-use Rattle.paper.proofs.Stands.{Stands}
-use Rattle.paper.proofs.Standing.{sound-stands}
+use Rattle.paper.proofs.reads.Allowed.{allowed-inv, allowed-yes}
+use Rattle.paper.proofs.reads.Stands.{Stands}
+use Rattle.paper.proofs.reads.Standing.{sound-stands}
 use Rattle.inspect.specs.Inspection.{inspected}
 use Rattle.inspect.proofs.Decide.{accepted-sound, sound-accepted, one-state}
 use Rattle.pool.specs.Models.{refusalOf}

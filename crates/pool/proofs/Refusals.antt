@@ -8,7 +8,7 @@ use lib.ListN.{length}
 use Rattle.words.specs.Choice.{when, when-yes, when-no}
 use Rattle.paper.specs.Answers.{not-allowed, not-sound}
 use Rattle.paper.specs.Allowed.{Allowed, allowed}
-use Rattle.paper.proofs.Allowed.{allowed-inv}
+use Rattle.paper.proofs.reads.Allowed.{allowed-inv}
 use Rattle.inspect.specs.Inspection.{inspected}
 use Rattle.pool.specs.Models.{refusalOf}
 

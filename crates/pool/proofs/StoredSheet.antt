@@ -7,8 +7,8 @@ use mathlib.Core.Path.{_∙_, _≡_, ap, refl, sym}
 use Prim.Native.Nat.{_%_, _*_, _+_, _/_, _<_, _≤_, suc, zero, ℕ}
 use native.Mathlib.Omega.{arith}
 use lib.ListN.{getD, length}
-use Rattle.paper.proofs.Octets.{getD-put-in}
-use Rattle.paper.proofs.Written.{getD-write, is-write, length-write}
+use Rattle.paper.proofs.sheet.Octets.{getD-put-in}
+use Rattle.paper.proofs.sheet.Written.{getD-write, is-write, length-write}
 use Rattle.paper.specs.Sheet.{Sheet, byte, pick, write}
 use Rattle.pool.specs.Fresh.{clearedTo}
 use Rattle.words.proofs.Laws.{getD-put, put-add, put-length}

@@ -10,9 +10,9 @@ use lib.Dec.{eqb}
 use lib.ListN.{length}
 use Rattle.heads.specs.Heads.{headOf}
 use Rattle.heads.specs.declared.head.Head.{Head}
-use Rattle.paper.proofs.Readings.{head-reads, low-reads, rest-reads}
-use Rattle.paper.proofs.Stands.{Stands}
-use Rattle.paper.proofs.Walk.{In, in-flag, in-left, in-mid, sized-parts, total-append}
+use Rattle.paper.proofs.reads.Readings.{head-reads, low-reads, rest-reads}
+use Rattle.paper.proofs.reads.Stands.{Stands}
+use Rattle.paper.proofs.runs.Walk.{In, in-flag, in-left, in-mid, sized-parts, total-append}
 use Rattle.paper.specs.Blocks.{Block, Kind, State, block, blocks, free, held, remainder, size, total}
 use Rattle.paper.specs.Governed.{flagAbove, headWord, heldBit}
 use Rattle.paper.specs.Granting.{E, R}

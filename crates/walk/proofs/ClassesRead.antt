@@ -8,8 +8,8 @@ use native.Mathlib.Omega.{arith}
 use lib.ListN.{getD, getD-replicate, length, length-replicate, length-set, replicate, set}
 use lib.Seq.{ext-getD, getD-set-other, getD-set-same}
 use Rattle.classes.specs.Class.{classOf}
-use Rattle.paper.proofs.Stands.{Stands}
-use Rattle.paper.proofs.Unique.{NoRemainder, high-no-remainder, low-no-remainder}
+use Rattle.paper.proofs.reads.Stands.{Stands}
+use Rattle.paper.proofs.reads.Unique.{NoRemainder, high-no-remainder, low-no-remainder}
 use Rattle.paper.specs.Blocks.{Block, State, block, blocks, free, held, remainder, total}
 use Rattle.paper.specs.Counting.{classCounters, countersFrom, heldOne, inClass}
 use Rattle.paper.specs.Governed.{flagAbove}

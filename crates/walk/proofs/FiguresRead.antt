@@ -4,10 +4,10 @@ use mathlib.Core.List.{List, [], _++_, _∷_}
 use mathlib.Core.Path.{_∙_, _≡_, ap, refl, sym}
 use Prim.Native.Nat.{_+_, _-_, _<_, _≤_, max, ℕ}
 use native.Mathlib.Omega.{arith}
-use Rattle.paper.proofs.Readings.{header-reads}
-use Rattle.paper.proofs.Stands.{Stands}
-use Rattle.paper.proofs.Unique.{NoRemainder, high-no-remainder, low-no-remainder}
-use Rattle.paper.proofs.Walk.{freeSum-le}
+use Rattle.paper.proofs.reads.Readings.{header-reads}
+use Rattle.paper.proofs.reads.Stands.{Stands}
+use Rattle.paper.proofs.reads.Unique.{NoRemainder, high-no-remainder, low-no-remainder}
+use Rattle.paper.proofs.runs.Walk.{freeSum-le}
 use Rattle.paper.specs.Blocks.{Block, State, block, blocks, free, freeSum, held, remainder, total}
 use Rattle.paper.specs.Counting.{figures, freeLargeOne, freeSmallOne, greatestFree, heldOne}
 use Rattle.paper.specs.Governed.{flagAbove, headerWord}

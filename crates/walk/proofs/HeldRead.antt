@@ -8,8 +8,8 @@ use Prim.Native.Nat.{_+_, _-_, _<_, _≤_, ℕ}
 use native.Mathlib.Nat.{add-zero}
 use native.Mathlib.Omega.{arith}
 use Rattle.heads.specs.declared.head.Head.{Head}
-use Rattle.paper.proofs.Splitting.{starts-append, starts-below, starts-past}
-use Rattle.paper.proofs.Stands.{Stands}
+use Rattle.paper.proofs.runs.Splitting.{starts-append, starts-below, starts-past}
+use Rattle.paper.proofs.reads.Stands.{Stands}
 use Rattle.paper.specs.Blocks.{Block, State, block, blocks, free, held, remainder, size, total}
 use Rattle.paper.specs.GivingBack.{heldAt}
 use Rattle.paper.specs.Governed.{flagAbove}

@@ -4,7 +4,7 @@ use mathlib.Core.Path.{_∙_, _≡_, sym}
 use Prim.Native.Nat.{_+_, _<_, ℕ}
 use native.Mathlib.Nat.{add-zero}
 use native.Mathlib.Omega.{arith}
-use Rattle.paper.proofs.Stands.{Stands}
+use Rattle.paper.proofs.reads.Stands.{Stands}
 use Rattle.paper.specs.Blocks.{Block, State, block, total}
 use Rattle.paper.specs.Governed.{flagAbove}
 use Rattle.paper.specs.Granting.{E, R}

@@ -4,7 +4,7 @@ use mathlib.Core.Path.{_≡_}
 use Prim.Native.Nat.{_+_, _-_, _≤_, ℕ}
 use native.Mathlib.Omega.{arith}
 use Rattle.classes.specs.Class.{classOf}
-use Rattle.paper.proofs.Splitting.{sumOf-append}
+use Rattle.paper.proofs.runs.Splitting.{sumOf-append}
 use Rattle.paper.specs.Blocks.{Block, State, block, blocks, free, held, remainder, size, total}
 use Rattle.paper.specs.Counting.{freeLargeOne, freeSmallOne, heldOne, inClass}
 use Rattle.paper.specs.Layout.{large}

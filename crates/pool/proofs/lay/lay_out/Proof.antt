@@ -1,5 +1,5 @@
 -- pool::lay_out meets its contract, by the length.
-use Rattle.paper.proofs.Allowed.{allowed-inv}
+use Rattle.paper.proofs.reads.Allowed.{allowed-inv}
 use Rattle.pool.specs.Fresh.{layOut}
 use Rattle.words.specs.Choice.{when-yes, when-no}
 use borrow.Author.Needs.{needs}

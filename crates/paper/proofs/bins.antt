@@ -1,0 +1,6 @@
+pub mod Bins
+pub mod BinLaws
+pub mod Seek
+pub mod Distances
+pub mod Listed
+pub mod Members

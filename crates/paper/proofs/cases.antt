@@ -1,0 +1,4 @@
+pub mod Starred
+pub mod WorkedTape
+pub mod Pools
+pub mod PoolsWritten

@@ -1,0 +1,10 @@
+pub mod HonestSound
+pub mod AllHeld
+pub mod UndoBins
+pub mod Undone
+pub mod UndoBackLarge
+pub mod UndoBackSmall
+pub mod UndoTake
+pub mod Undoing
+pub mod SoundHonest
+pub mod Accepted

@@ -1,0 +1,11 @@
+pub mod Kept
+pub mod FreshSound
+pub mod TakeSmallKeeps
+pub mod TakeLargeKeeps
+pub mod TakeKeeps
+pub mod TakeGrants
+pub mod Settled
+pub mod BackLargeKeeps
+pub mod BackSmallKeeps
+pub mod BackKeeps
+pub mod BackThenHeld

@@ -1,0 +1,93 @@
+-- A large block taken, from a bin of its size, as the low part of a larger one, or from the remainder's low end, keeps the state well formed.
+use mathlib.Core.List.{List, [], _++_, _∷_}
+use mathlib.Core.Logic.{_≢_}
+use mathlib.Core.Path.{_∙_, _≡_, ap, sym}
+use Prim.Native.Nat.{_%_, _+_, _-_, _≤_, ℕ}
+use native.Mathlib.Omega.{arith}
+use Rattle.paper.proofs.bins.BinLaws.{count-rebin-enter, count-rebin-leave, used-counts-where-first}
+use Rattle.paper.proofs.keeps.Kept.{Kept, freeAt-runs, kept-by, kept-low, kept-same, sized-high, sized-low, sized-rest}
+use Rattle.paper.proofs.bins.Listed.{freeAt-append}
+use Rattle.paper.proofs.runs.LowHigh.{low-append, low-cut, low-hold}
+use Rattle.paper.proofs.runs.Places.{used-in-low}
+use Rattle.paper.proofs.runs.Replaced.{replaced-by, replaced-freeAt, replaced-sized, replaced-total}
+use Rattle.paper.proofs.bins.Seek.{seek-spec}
+use Rattle.paper.proofs.runs.Walk.{in-sized, sized-append, total-append}
+use Rattle.paper.specs.Bins.{enter, first, leave, rebin, used}
+use Rattle.paper.specs.Blocks.{Block, State, block, end, free, held, total}
+use Rattle.paper.specs.Granting.{E, cutLow, smallestBin, takeLarge, takePart, takeWhole}
+use Rattle.paper.specs.Runs.{from, replace, under}
+use Rattle.paper.specs.Sound.{Low, WellFormed, freeAt}
+use Rattle.words.specs.Choice.{by<, by=, if=, if=-no, if=-yes, ifs}
+
+-- the smallest bin of at least y is not empty
+pub smallestBin-found : (s : State) (y : ℕ) → smallestBin s y ≢ 0 → (y ≤ smallestBin s y) × (first (s .bins (smallestBin s y)) ≢ 0)
+unfolding smallestBin
+smallestBin-found s y n =
+    let r = seek-spec (λ z. if= (first (s .bins z)) 0 0 z) (end s) y n in
+    by= (first (s .bins (r .0))) 0 (λ e. absurd (n (sym (r .2) ∙ if=-yes _ 0 _ _ e)))
+    (λ m. let e : r .0 ≡ smallestBin s y = sym (if=-no _ 0 _ _ m) ∙ r .2 in
+    (omega (arith, r .1), λ k. m (ap (λ (z : ℕ). first (s .bins z)) e ∙ k)))
+
+module _ (s : State) (W : WellFormed s) (b : ℕ) (large : 72 ≤ b) (eights : b % 8 ≡ 0) where
+  takeWhole-keeps : first (s .bins b) ≢ 0 → Kept s (takeWhole s b .state)
+  unfolding takeWhole freeAt
+  takeWhole-keeps n =
+      let q = used (s .bins b) in
+      let i = used-in-low s W b large n in
+      kept-low s W (replace (s .low) 168 q (q + b) (block b held ∷ [])) (rebin (s .bins) b (leave q (s .bins b)))
+      (replaced-by (s .low) 168 1 q (block b free) (i .0) (sized-low s W) (i .1) Low (block b held ∷ [])
+      (low-hold (under (s .low) 168 q) b b (from (s .low) 168 (q + b)) large) (W .low-ok))
+      (replaced-sized (s .low) 168 1 q (block b free) (i .0) (sized-low s W) (i .1) (block b held ∷ []) ((omega arith, eights), tt))
+      (replaced-total (s .low) 168 1 q (block b free) (i .0) (sized-low s W) (i .1) (block b held ∷ []) (omega arith))
+      (λ y x. omega (
+        arith,
+        count-rebin-leave (s .bins) b q y x (used-counts-where-first (s .bins b) n),
+        replaced-freeAt (s .low) 168 1 q (block b free) (i .0) (sized-low s W) (i .1) (block b held ∷ []) (omega arith) y x,
+      ))
+
+  takePart-keeps : (z : ℕ) → b + 72 ≤ z → first (s .bins z) ≢ 0 → Kept s (takePart s z b .state)
+  unfolding takePart freeAt
+  takePart-keeps z l n =
+      let q = used (s .bins z) in
+      let i = used-in-low s W z (omega arith) n in
+      let sz = in-sized (s .low) 168 1 q (block z free) (i .0) (sized-low s W) (i .1) in
+      let new : List Block = block b held ∷ block (z - b) free ∷ [] in
+      let bins : ℕ → List ℕ = rebin (s .bins) z (leave q (s .bins z)) in
+      kept-low s W (replace (s .low) 168 q (q + z) new) (rebin bins (z - b) (enter (q + b) (bins (z - b))))
+      (replaced-by (s .low) 168 1 q (block z free) (i .0) (sized-low s W) (i .1) Low new
+      (low-cut (under (s .low) 168 q) z b (z - b) (from (s .low) 168 (q + z)) large (omega arith)) (W .low-ok))
+      (replaced-sized (s .low) 168 1 q (block z free) (i .0) (sized-low s W) (i .1) new
+      ((omega arith, eights), ((omega arith, omega (arith, sz .1)), tt)))
+      (replaced-total (s .low) 168 1 q (block z free) (i .0) (sized-low s W) (i .1) new (omega arith))
+      (λ y x. omega (
+        arith,
+        count-rebin-enter bins (z - b) (q + b) y x,
+        count-rebin-leave (s .bins) z q y x (used-counts-where-first (s .bins z) n),
+        replaced-freeAt (s .low) 168 1 q (block z free) (i .0) (sized-low s W) (i .1) new (omega arith) y x,
+      ))
+
+  cutLow-keeps : Kept s (cutLow s b .state)
+  unfolding cutLow freeAt
+  cutLow-keeps =
+      by< (s .rest) (b + 8) (λ l. simp ifs (kept-same s W))
+      (λ l. let t = total-append (s .low) (block b held ∷ []) in
+      simp ifs (kept-by s W (s .low ++ block b held ∷ []) (s .rest - b) (s .high) (s .bins)
+      (low-append (s .low) (block b held ∷ []) (W .low-ok) (large, tt)) (W .high-ok)
+      (sized-append (s .low) (block b held ∷ []) (sized-low s W) ((omega arith, eights), tt))
+      (omega (arith, sized-rest s W)) (sized-high s W) (omega arith)
+      (λ y x. let e : 168 + total (s .low ++ block b held ∷ []) + (s .rest - b) ≡ E s = omega arith in
+      omega (
+        arith,
+        W .listed y x,
+        freeAt-runs s y x,
+        freeAt-append (s .low) (block b held ∷ []) 168 y x,
+        ap (λ (k : ℕ). freeAt (s .high) k y x) e,
+      ))))
+
+  pub takeLarge-keeps : Kept s (takeLarge s b .state)
+  unfolding takeLarge
+  takeLarge-keeps =
+      by= (first (s .bins b)) 0
+      (λ e. by= (smallestBin s (b + 72)) 0 (λ f. simp ifs cutLow-keeps)
+      (λ f. let r = smallestBin-found s (b + 72) f in simp ifs (takePart-keeps (smallestBin s (b + 72)) (r .0) (r .1))))
+      (λ n. simp ifs (takeWhole-keeps n))

@@ -1,0 +1,13 @@
+pub mod Walk
+pub mod Splitting
+pub mod Places
+pub mod LowHigh
+pub mod Replaced
+pub mod Shapes
+pub mod Flags
+pub mod Sums
+pub mod FewFree
+pub mod HeldPlaces
+pub mod HeldWalk
+pub mod Asking
+pub mod Neighbours

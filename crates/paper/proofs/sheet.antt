@@ -1,0 +1,9 @@
+pub mod Octets
+pub mod Written
+pub mod WrittenBytes
+pub mod Stores
+pub mod StoreRuns
+pub mod FreeWordLast
+pub mod Phases
+pub mod Fields
+pub mod Within

@@ -1,0 +1,13 @@
+pub mod Segment
+pub mod Cut
+pub mod Hold
+pub mod Join
+pub mod Leave
+pub mod Leaving
+pub mod LeaveStep
+pub mod First
+pub mod Enter
+pub mod Only
+pub mod EnterStep
+pub mod LinkWords
+pub mod SmallBins
