@@ -9,3 +9,4 @@ pub mod BackLargeKeeps
 pub mod BackSmallKeeps
 pub mod BackKeeps
 pub mod BackThenHeld
+pub mod TakeThenHeld

@@ -7,3 +7,4 @@ pub mod FreeWordLast
 pub mod Phases
 pub mod Fields
 pub mod Within
+pub mod Parts

@@ -10,3 +10,5 @@ pub mod GiveBackPaper
 pub mod ClassPaper
 pub mod Demand3
 pub mod Determined
+pub mod Refused
+pub mod Holding

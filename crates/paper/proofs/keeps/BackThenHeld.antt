@@ -41,11 +41,11 @@ held-runs s W x =
 unfoldable pub Released : State → State → ℕ → ℕ → Type 0
 Released s s' q z = (x : ℕ) → startsAt heldSize (blocks s') blocks-at x + if= q x z 0 ≡ startsAt heldSize (blocks s) blocks-at x
 
-held-one : (z q x : ℕ) → startsAt heldSize (block z held ∷ []) q x ≡ if= q x z 0
+pub held-one : (z q x : ℕ) → startsAt heldSize (block z held ∷ []) q x ≡ if= q x z 0
 unfolding startsAt
 held-one z q x = refl
 
-free-none : (m p x : ℕ) → startsAt heldSize (block m free ∷ []) p x ≡ 0
+pub free-none : (m p x : ℕ) → startsAt heldSize (block m free ∷ []) p x ≡ 0
 unfolding startsAt
 free-none m p x = by= p x (λ e. if=-yes p x _ _ e) (λ n. if=-no p x _ _ n)
 

@@ -42,8 +42,8 @@ part-free : (s : State) (r : ℕ) (c : Block) (P' : ℕ) → In (blocks s) 168 1
     → (a b : ℕ) → r ≤ a → a + b ≤ r + size c → Free s a b
 part-free s r c P' i n a b l m q z P j = go (in-apart (blocks s) 168 1 q (block z held) P r c P' j i)
   where
-    go : (block z held ≡ c) ⊎ (q + z ≤ r) ⊎ (r + size c ≤ q) → (q + z ≤ a) ⊎ (a + b ≤ q)
-    go (inl e) = absurd (n z e)
+    go : ((q ≡ r) × (block z held ≡ c)) ⊎ (q + z ≤ r) ⊎ (r + size c ≤ q) → (q + z ≤ a) ⊎ (a + b ≤ q)
+    go (inl e) = absurd (n z (e .1))
     go (inr (inl k)) = inl (omega arith)
     go (inr (inr k)) = inr (omega arith)
 

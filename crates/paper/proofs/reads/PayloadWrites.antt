@@ -1,26 +1,28 @@
 -- Writes inside held payloads keep a sound pool sound, with the same blocks and lists: a held block governs its head word only, so at a
 -- byte of its payload the sheet has nothing.
-use mathlib.Core.List.{List, _++_}
-use mathlib.Core.Logic.{_⊎_, inl, inr}
+use mathlib.Core.List.{List}
+use mathlib.Core.Logic.{_≢_, _⊎_, inl, inr}
 use mathlib.Core.Option.{Option, none, some}
-use mathlib.Core.Path.{_∙_, _≡_, ap, refl, subst, sym}
+use mathlib.Core.Path.{_∙_, _≡_, ap, refl, sym}
 use Prim.Native.Nat.{_*_, _+_, _-_, _/_, _<_, _≤_, ℕ}
 use native.Mathlib.Omega.{arith}
-use lib.ListN.{List·getD-append, drop, getD, length, length-append, length-drop, length-set, set, take as firsts}
-use lib.Seq.{getD-append-add, getD-drop, getD-set-other, getD-take, length-take-le}
+use lib.ListN.{drop, getD, length, take as firsts}
 use Rattle.paper.proofs.keeps.BackKeeps.{held-sized}
 use Rattle.paper.proofs.sheet.Fields.{at-block}
 use Rattle.paper.proofs.runs.HeldPlaces.{held-at-lies, held-place}
 use Rattle.paper.proofs.runs.HeldWalk.{held-in}
 use Rattle.paper.proofs.reads.Standing.{sound-stands, stands-sound}
 use Rattle.paper.proofs.reads.Stands.{Stands}
+use Rattle.paper.proofs.runs.Places.{in-apart}
 use Rattle.paper.proofs.runs.Walk.{In, in-aligned, in-high}
+use Rattle.paper.proofs.sheet.Parts.{part-same, replaced-below, replaced-length, replaced-past, replacedPart}
 use Rattle.paper.proofs.sheet.Within.{governed-is-some}
-use Rattle.paper.proofs.sheet.Written.{holds-through}
-use Rattle.paper.specs.Blocks.{State, block, blocks, held}
+use Rattle.paper.proofs.sheet.Written.{holds-through, length-write, write-keeps}
+use Rattle.paper.specs.Blocks.{State, block, blocks, end, held}
 use Rattle.paper.specs.GivingBack.{heldAt}
 use Rattle.paper.specs.Governed.{sheet}
-use Rattle.paper.specs.Sound.{Sized, Sound}
+use Rattle.paper.specs.Sheet.{write}
+use Rattle.paper.specs.Sound.{Sized, Sound, WellFormed}
 use Rattle.words.specs.Choice.{by<, if=-no}
 
 -- byte i is in the payload of the held block of size z at q
@@ -60,43 +62,67 @@ stands-same-outside s bs bs' S l k =
 -- a part in one held payload is replaced by another, as long
 pub stands-part-replaced : (s : State) (bs : List ℕ) → Stands s bs → (q z P : ℕ) → In (blocks s) 168 1 q (block z held) P
     → (a : ℕ) (part : List ℕ) → q + 4 ≤ a → a + length part ≤ q + z
-    → Stands s (firsts a bs ++ (part ++ drop (a + length part) bs))
+    → Stands s (replacedPart bs a part)
 stands-part-replaced s bs S q z P h a part l m =
-    let n : q + z ≤ length bs = omega (arith, S .ends, in-high (blocks s) 168 1 q (block z held) P h) in
-    let f : length (firsts a bs) ≡ a = length-take-le a bs (omega arith) in
-    stands-same-outside s bs (firsts a bs ++ (part ++ drop (a + length part) bs)) S
-    (omega (
-      arith,
-      length-append (firsts a bs) (part ++ drop (a + length part) bs),
-      length-append part (drop (a + length part) bs),
-      length-drop (a + length part) bs,
-    ))
-    (λ i b p. by< i a
-    (λ c. List·getD-append (firsts a bs) (part ++ drop (a + length part) bs) 0 i (omega arith) ∙ getD-take a bs i 0 c)
+    let n : a + length part ≤ length bs = omega (arith, S .ends, in-high (blocks s) 168 1 q (block z held) P h) in
+    stands-same-outside s bs (replacedPart bs a part) S (replaced-length bs a part n)
+    (λ i b p. by< i a (λ c. replaced-below bs a part n i c)
     (λ c. by< i (a + length part)
     (λ d. absurd (p (record { start = q; size = z; flag = P; at = h; past-head = omega arith; before-end = omega arith })))
-    (λ d. let e : i ≡ length (firsts a bs) + (length part + (i - (a + length part))) = omega arith in
-    ap (λ (k : ℕ). getD (firsts a bs ++ (part ++ drop (a + length part) bs)) k 0) e
-    ∙ getD-append-add (firsts a bs) (part ++ drop (a + length part) bs) (length part + (i - (a + length part))) 0
-    ∙ getD-append-add part (drop (a + length part) bs) (i - (a + length part)) 0
-    ∙ getD-drop (a + length part) bs (i - (a + length part)) 0
-    ∙ ap (λ (k : ℕ). getD bs k 0) (omega arith))))
-
--- one byte of a held payload is another
-pub stands-byte-changed : (s : State) (bs : List ℕ) → Stands s bs → (i v : ℕ) → InPayload s i → Stands s (set bs i v)
-stands-byte-changed s bs S i v p =
-    stands-same-outside s bs (set bs i v) S (length-set bs i v)
-    (λ j b n. getD-set-other bs i j v 0 (λ e. n (subst (InPayload s) (sym e) p)))
+    (λ d. replaced-past bs a part n i d)))
 
 -- ---- the payload of an offset, which is lent
 
 pub stands-payload-replaced : (s : State) (bs : List ℕ) → Stands s bs → (offset : ℕ) → 1 ≤ heldAt s offset
-    → (part : List ℕ) → length part ≡ heldAt s offset - 4 → Stands s (firsts offset bs ++ (part ++ drop (offset + length part) bs))
-stands-payload-replaced s bs S offset l part e =
+    → (a : ℕ) (part : List ℕ) → offset ≤ a → a + length part ≤ offset + (heldAt s offset - 4) → Stands s (replacedPart bs a part)
+stands-payload-replaced s bs S offset l a part b e =
     let h = held-in s (offset - 4) (heldAt s offset) (held-at-lies s (S .well-formed) offset l) in
     let o = held-place s offset l .0 in
-    stands-part-replaced s bs S (offset - 4) (heldAt s offset) (h .0) (h .1) offset part (omega arith)
+    stands-part-replaced s bs S (offset - 4) (heldAt s offset) (h .0) (h .1) a part (omega arith)
     (omega (arith, held-sized s (S .well-formed) offset l))
+
+-- the payloads of two offsets have no byte in common
+pub payloads-apart : (s : State) → WellFormed s → (offset other : ℕ) → 1 ≤ heldAt s offset → 1 ≤ heldAt s other → offset ≢ other
+    → (offset + (heldAt s offset - 4) ≤ other) ⊎ (other + (heldAt s other - 4) ≤ offset)
+payloads-apart s W offset other l m n =
+    let h = held-in s (offset - 4) (heldAt s offset) (held-at-lies s W offset l) in
+    let k = held-in s (other - 4) (heldAt s other) (held-at-lies s W other m) in
+    go (in-apart (blocks s) 168 1 (offset - 4) (block (heldAt s offset) held) (h .0) (other - 4) (block (heldAt s other) held) (k .0) (h .1) (k .1))
+  where
+    go : ((offset - 4 ≡ other - 4) × (block (heldAt s offset) held ≡ block (heldAt s other) held))
+        ⊎ (offset - 4 + heldAt s offset ≤ other - 4)
+        ⊎ (other - 4 + heldAt s other ≤ offset - 4)
+        → (offset + (heldAt s offset - 4) ≤ other) ⊎ (other + (heldAt s other - 4) ≤ offset)
+    go (inl e) = absurd (n (omega (arith, e .0, held-place s offset l .0, held-place s other m .0)))
+    go (inr (inl e)) = inl (omega (arith, held-place s offset l .0, held-place s other m .0))
+    go (inr (inr e)) = inr (omega (arith, held-place s offset l .0, held-place s other m .0))
+
+-- the payload at an offset ends within the pool
+pub held-within : (s : State) → WellFormed s → (offset : ℕ) → 1 ≤ heldAt s offset → offset + (heldAt s offset - 4) ≤ end s
+held-within s W offset l =
+    let h = held-in s (offset - 4) (heldAt s offset) (held-at-lies s W offset l) in
+    omega (
+      arith,
+      held-place s offset l .0,
+      held-sized s W offset l,
+      in-high (blocks s) 168 1 (offset - 4) (block (heldAt s offset) held) (h .0) (h .1),
+    )
+
+-- byte i of the payload at an offset
+pub held-in-payload : (s : State) → WellFormed s → (offset : ℕ) → 1 ≤ heldAt s offset → (i : ℕ) → i < heldAt s offset - 4 → InPayload s (offset + i)
+held-in-payload s W offset l i b =
+    let h = held-in s (offset - 4) (heldAt s offset) (held-at-lies s W offset l) in
+    let o = held-place s offset l .0 in
+    record { start = offset - 4; size = heldAt s offset; flag = h .0; at = h .1; past-head = omega arith; before-end = omega arith }
+
+-- what a state writes over some bytes leaves the payloads of its held blocks as they are
+pub written-payload : (s : State) → WellFormed s → (bs : List ℕ) → end s ≡ length bs → (offset : ℕ) → 1 ≤ heldAt s offset
+    → firsts (heldAt s offset - 4) (drop offset (write (sheet s) bs)) ≡ firsts (heldAt s offset - 4) (drop offset bs)
+written-payload s W bs e offset l =
+    let m = held-within s W offset l in
+    part-same offset (heldAt s offset - 4) bs (write (sheet s) bs) (length-write (sheet s) bs) (omega arith)
+    (λ i b. write-keeps (sheet s) bs (offset + i) (omega arith)
+    (payload-ungoverned s (W .sized) (offset + i) (held-in-payload s W offset l i b)))
 
 -- ---- of a sound pool
 
@@ -104,18 +130,3 @@ pub sound-same-outside : (bs bs' : List ℕ) (S : Sound bs) → length bs' ≡ l
     → (S' : Sound bs') × (S' .state ≡ S .state)
 sound-same-outside bs bs' S l k =
     stands-sound (S .state) bs' (stands-same-outside (S .state) bs bs' (sound-stands bs S) l k)
-
-pub sound-part-replaced : (bs : List ℕ) (S : Sound bs) (q z P : ℕ) → In (blocks (S .state)) 168 1 q (block z held) P
-    → (a : ℕ) (part : List ℕ) → q + 4 ≤ a → a + length part ≤ q + z
-    → (S' : Sound (firsts a bs ++ (part ++ drop (a + length part) bs))) × (S' .state ≡ S .state)
-sound-part-replaced bs S q z P h a part l m =
-    stands-sound (S .state) _ (stands-part-replaced (S .state) bs (sound-stands bs S) q z P h a part l m)
-
-pub sound-byte-changed : (bs : List ℕ) (S : Sound bs) (i v : ℕ) → InPayload (S .state) i → (S' : Sound (set bs i v)) × (S' .state ≡ S .state)
-sound-byte-changed bs S i v p = stands-sound (S .state) _ (stands-byte-changed (S .state) bs (sound-stands bs S) i v p)
-
-pub sound-payload-replaced : (bs : List ℕ) (S : Sound bs) (offset : ℕ) → 1 ≤ heldAt (S .state) offset
-    → (part : List ℕ) → length part ≡ heldAt (S .state) offset - 4
-    → (S' : Sound (firsts offset bs ++ (part ++ drop (offset + length part) bs))) × (S' .state ≡ S .state)
-sound-payload-replaced bs S offset l part e =
-    stands-sound (S .state) _ (stands-payload-replaced (S .state) bs (sound-stands bs S) offset l part e)

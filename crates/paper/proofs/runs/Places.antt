@@ -74,9 +74,9 @@ module _ (s : State) (W : WellFormed s) where
 
 -- ---- two blocks of a run are one, or apart
 pub in-apart : (xs : List Block) (p P q : ℕ) (b : Block) (P' r : ℕ) (c : Block) (P'' : ℕ) → In xs p P q b P' → In xs p P r c P''
-    → (b ≡ c) ⊎ (q + size b ≤ r) ⊎ (r + size c ≤ q)
+    → ((q ≡ r) × (b ≡ c)) ⊎ (q + size b ≤ r) ⊎ (r + size c ≤ q)
 in-apart [] p P q b P' r c P'' h k = absurd h
-in-apart (d ∷ xs) p P q b P' r c P'' (inl h) (inl k) = inl (h .1 ∙ sym (k .1))
+in-apart (d ∷ xs) p P q b P' r c P'' (inl h) (inl k) = inl (h .0 ∙ sym (k .0), h .1 ∙ sym (k .1))
 in-apart (d ∷ xs) p P q b P' r c P'' (inl h) (inr k) =
     inr (inl (omega (arith, ap size (h .1), in-low xs (p + size d) (flagAbove d) r c P'' k)))
 in-apart (d ∷ xs) p P q b P' r c P'' (inr h) (inl k) =

@@ -4,10 +4,10 @@ use mathlib.Core.Logic.{inl}
 use mathlib.Core.Path.{_∙_, _≡_, ap, refl, subst, sym}
 use Prim.Native.Nat.{_+_, ℕ}
 use native.Mathlib.Omega.{arith}
-use Rattle.paper.proofs.runs.Splitting.{freeAt-mid, in-is, in-replace, in-starts, sized-mid, sized-mid-parts, total-mid}
+use Rattle.paper.proofs.runs.Splitting.{freeAt-mid, in-is, in-replace, in-starts, sized-mid, sized-mid-parts, starts-mid, total-mid}
 use Rattle.paper.proofs.runs.Walk.{In, flagPast, in-mid}
 use Rattle.paper.specs.Blocks.{Block, size, total}
-use Rattle.paper.specs.Runs.{from, replace, under}
+use Rattle.paper.specs.Runs.{from, replace, startsAt, under}
 use Rattle.paper.specs.Sound.{Sized, freeAt}
 
 module _ (xs : List Block) (p P q : ℕ) (b : Block) (P' : ℕ) (S : Sized xs) (i : In xs p P q b P') where
@@ -46,6 +46,17 @@ module _ (xs : List Block) (p P q : ℕ) (b : Block) (P' : ℕ) (S : Sized xs) (
       let f = ap (λ (l : List Block). freeAt l p y x) (in-is xs p P q b P' S i) in
       let g = freeAt-mid below new beyond p q (q + size b) y x a (omega arith) in
       let h = freeAt-mid below (b ∷ []) beyond p q (q + size b) y x a (omega arith) in
+      omega arith
+
+  pub replaced-starts : (f : Block → ℕ) (new : List Block) → Sized new → total new ≡ size b → (x : ℕ)
+      → startsAt f (replace xs p q (q + size b) new) p x + startsAt f (b ∷ []) q x ≡ startsAt f xs p x + startsAt f new q x
+  unfolding below beyond
+  replaced-starts f new n t x =
+      let a = in-starts xs p P q b P' S i in
+      let e = ap (λ (l : List Block). startsAt f l p x) (in-replace xs p P q b P' S i new) in
+      let g = ap (λ (l : List Block). startsAt f l p x) (in-is xs p P q b P' S i) in
+      let h = starts-mid f below new beyond p q (q + size b) x (parts .0) n a (omega arith) in
+      let k = starts-mid f below (b ∷ []) beyond p q (q + size b) x (parts .0) (parts .1) a (omega arith) in
       omega arith
 
   -- the first of the new blocks starts where the old one did

@@ -1,0 +1,107 @@
+-- "A refusal returns 0 beside its number and changes nothing", of every public call, by one theorem over their definitions: a call is
+-- refused by what it reads or by its own rule, and either way the lent bytes stay. Refused figures are seven zeros.
+use mathlib.Core.Path.{_≡_, refl, ap, _∙_}
+use mathlib.Core.Logic.{_≢_}
+use mathlib.Core.Bool.{Bool, true, false}
+use mathlib.Core.List.{List, [], _∷_}
+use Prim.Native.Nat.{ℕ}
+use native.Mathlib.Omega.{arith}
+use lib.ListN.{length}
+use Rattle.words.specs.Choice.{when, when-yes, when-no, if=-yes, if=-no, by=}
+use Rattle.words.specs.Words.{Bytes}
+use Rattle.paper.specs.declared.Answer.{Answer}
+use Rattle.paper.specs.declared.Answer.the-variants.{Done, Refused}
+use Rattle.paper.specs.declared.Tally.{Tally}
+use Rattle.paper.specs.declared.Tally.the-variants.{Counted, Refused as Uncounted}
+use Rattle.paper.specs.Allowed.{allowed}
+use Rattle.paper.specs.Answers.{Out, out, number, value, tally-number, figures-of, no-figures, sevenOf}
+use Rattle.paper.specs.Blocks.{State}
+use Rattle.paper.specs.Calls.{Reading, Reads, misfit, broken, sound, layOutCall, takeCall, giveBackCall, classCountCall}
+use Rattle.paper.specs.Governed.{sheet}
+use Rattle.paper.specs.Sheet.{Holds, write}
+use Rattle.paper.proofs.keeps.BackKeeps.{giveBack-refused}
+use Rattle.paper.proofs.keeps.TakeKeeps.{take-refused}
+use Rattle.paper.proofs.reads.Stands.{Stands}
+use Rattle.pool.specs.Calls.{layOut, inspect, take, giveBack, ask, figures, classCount}
+use Rattle.pool.specs.Read.{read}
+use Rattle.pool.proofs.ByPaper.{stands-for}
+use Rattle.pool.proofs.Readings.{reads}
+
+-- a public call on a pool of lent bytes, with its number or its lent list
+pub data Call : Type 0 where
+  lays inspects : Call
+  takes gives asks : ℕ → Call
+  counts : List ℕ → Call
+
+-- what the call is lent for writing: the pool, or its list; a call that only reads leaves the pool as it is
+abbrev pub lent : List ℕ → Call → List ℕ
+lent bs (counts cs) = cs
+lent bs lays = bs
+lent bs inspects = bs
+lent bs (takes size) = bs
+lent bs (gives offset) = bs
+lent bs (asks offset) = bs
+
+-- what it answers, and what was lent afterwards
+abbrev pub outcome : List ℕ → Call → Out
+outcome bs lays = layOut bs
+outcome bs inspects = out (inspect bs) bs
+outcome bs (takes size) = take bs size
+outcome bs (gives offset) = giveBack bs offset
+outcome bs (asks offset) = out (ask bs offset) bs
+outcome bs (counts cs) = classCount bs cs
+
+-- an outcome that is refused changes nothing
+abbrev Unchanged : List ℕ → Out → Type 0
+Unchanged bs o = (k : ℕ) → o .answer ≡ Refused k → o .after ≡ bs
+
+done-unchanged : (bs : List ℕ) (v : ℕ) (after : List ℕ) → Unchanged bs (out (Done v) after)
+done-unchanged bs v after k e = absurd (let z : _≡_ {A = ℕ} 0 1 = cc in omega arith)
+
+lays-unchanged : (bs : List ℕ) → Unchanged bs (layOut bs)
+unfolding layOut layOutCall
+lays-unchanged bs = go (allowed (length bs)) refl
+  where
+    go : (b : Bool) → allowed (length bs) ≡ b → Unchanged bs (layOutCall bs)
+    go true e = rw (when-yes (allowed (length bs)) _ _ e) (done-unchanged bs _ _)
+    go false e = rw (when-no (allowed (length bs)) _ _ e) (λ k f. refl)
+
+-- the state of a sound pool, written over it, is the pool
+same-written : (bs : List ℕ) (s s' : State) → Stands s bs → s' ≡ s → write (sheet s') bs ≡ bs
+unfolding Holds
+same-written bs s s' S e = ap (λ (t : State). write (sheet t) bs) e ∙ S .holds
+
+takes-unchanged : (bs : List ℕ) (size : ℕ) (x : Reading) → Reads bs x → Unchanged bs (takeCall x bs size)
+takes-unchanged bs size misfit r k e = refl
+takes-unchanged bs size broken r k e = refl
+takes-unchanged bs size (sound s) r k e = same-written bs s _ (stands-for bs s r) (take-refused s size k e)
+
+gives-unchanged : (bs : List ℕ) (offset : ℕ) (x : Reading) → Reads bs x → Unchanged bs (giveBackCall x bs offset)
+gives-unchanged bs offset misfit r k e = refl
+gives-unchanged bs offset broken r k e = refl
+gives-unchanged bs offset (sound s) r k e = same-written bs s _ (stands-for bs s r) (giveBack-refused s offset k e .0)
+
+counts-unchanged : (cs : List ℕ) (x : Reading) → Unchanged cs (classCountCall x cs)
+counts-unchanged cs misfit = λ k e. refl
+counts-unchanged cs broken = λ k e. refl
+counts-unchanged cs (sound s) =
+    by= (length cs) 53 (λ l. rw (if=-yes (length cs) 53 _ _ l) (done-unchanged cs _ _)) (λ l. rw (if=-no (length cs) 53 _ _ l) (λ k e. refl))
+
+unchanged : (bs : List ℕ) → Bytes bs → (c : Call) → Unchanged (lent bs c) (outcome bs c)
+unfolding take giveBack classCount
+unchanged bs bytes lays = lays-unchanged bs
+unchanged bs bytes inspects = λ k e. refl
+unchanged bs bytes (takes size) = takes-unchanged bs size (read bs) (reads bs bytes)
+unchanged bs bytes (gives offset) = gives-unchanged bs offset (read bs) (reads bs bytes)
+unchanged bs bytes (asks offset) = λ k e. refl
+unchanged bs bytes (counts cs) = counts-unchanged cs (read bs)
+
+-- "A refusal returns 0 beside its number and changes nothing."
+pub refused-changes-nothing : (bs : List ℕ) → Bytes bs → (c : Call) (k : ℕ) → outcome bs c .answer ≡ Refused k
+    → (number (outcome bs c .answer) ≡ k) × (value (outcome bs c .answer) ≡ 0) × (outcome bs c .after ≡ lent bs c)
+refused-changes-nothing bs bytes c k e = (ap number e, ap value e, unchanged bs bytes c k e)
+
+-- "Refused figures are seven zeros": the answer's figures, as the list that a caller hears
+pub refused-figures : (bs : List ℕ) (k : ℕ) → figures bs ≡ Uncounted k
+    → (tally-number (figures bs) ≡ k) × (sevenOf (figures-of (figures bs)) ≡ 0 ∷ 0 ∷ 0 ∷ 0 ∷ 0 ∷ 0 ∷ 0 ∷ [])
+refused-figures bs k e = (ap tally-number e, ap (λ (t : Tally). sevenOf (figures-of t)) e)
