@@ -3,16 +3,14 @@
 -- call moves or frees a held block but the one given back.
 use mathlib.Core.Path.{_≡_, refl, ap, _∙_, sym, subst}
 use mathlib.Core.Logic.{_≢_, _⊎_, inl, inr}
-use mathlib.Core.List.{List, _++_}
+use mathlib.Core.List.{List}
 use Prim.Native.Nat.{ℕ, _+_, _-_, _≤_, _<_}
 use native.Mathlib.Omega.{arith}
 use lib.ListN.{getD, length, take as firsts, drop, length-drop}
 use lib.Seq.{length-take-le}
 use Rattle.words.specs.Choice.{if=-yes, if=-no, by=}
 use Rattle.words.specs.Words.{Bytes}
-use Rattle.paper.specs.declared.Answer.{Answer}
 use Rattle.paper.specs.declared.Answer.the-variants.{Done, Refused}
-use Rattle.paper.specs.Answers.{Out}
 use Rattle.paper.specs.Blocks.{State, end}
 use Rattle.paper.specs.Calls.{Reading, Reads, misfit, broken, sound, takeCall, giveBackCall, askCall, lendFrom, lendTo}
 use Rattle.paper.specs.GivingBack.{heldAt, ask as askState, giveBack as giveBackState}

@@ -1,20 +1,18 @@
 -- "A refusal returns 0 beside its number and changes nothing", of every public call, by one theorem over their definitions: a call is
 -- refused by what it reads or by its own rule, and either way the lent bytes stay. Refused figures are seven zeros.
 use mathlib.Core.Path.{_≡_, refl, ap, _∙_}
-use mathlib.Core.Logic.{_≢_}
 use mathlib.Core.Bool.{Bool, true, false}
 use mathlib.Core.List.{List, [], _∷_}
 use Prim.Native.Nat.{ℕ}
 use native.Mathlib.Omega.{arith}
 use lib.ListN.{length}
-use Rattle.words.specs.Choice.{when, when-yes, when-no, if=-yes, if=-no, by=}
+use Rattle.words.specs.Choice.{when-yes, when-no, if=-yes, if=-no, by=}
 use Rattle.words.specs.Words.{Bytes}
-use Rattle.paper.specs.declared.Answer.{Answer}
 use Rattle.paper.specs.declared.Answer.the-variants.{Done, Refused}
 use Rattle.paper.specs.declared.Tally.{Tally}
-use Rattle.paper.specs.declared.Tally.the-variants.{Counted, Refused as Uncounted}
+use Rattle.paper.specs.declared.Tally.the-variants.{Refused as Uncounted}
 use Rattle.paper.specs.Allowed.{allowed}
-use Rattle.paper.specs.Answers.{Out, out, number, value, tally-number, figures-of, no-figures, sevenOf}
+use Rattle.paper.specs.Answers.{Out, out, number, value, tally-number, figures-of, sevenOf}
 use Rattle.paper.specs.Blocks.{State}
 use Rattle.paper.specs.Calls.{Reading, Reads, misfit, broken, sound, layOutCall, takeCall, giveBackCall, classCountCall}
 use Rattle.paper.specs.Governed.{sheet}

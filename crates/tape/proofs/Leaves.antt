@@ -1,5 +1,5 @@
--- What a caller of a run needs: its lines are bytes of `out`, and two outcomes that its statement allows are the same.
-use mathlib.Core.Path.{_≡_, sym, ap, _∙_}
+-- What a caller of a run needs: its lines are bytes of `out`.
+use mathlib.Core.Path.{_≡_, ap}
 use mathlib.Core.List.{List, _++_}
 use Prim.Native.Nat.{ℕ, _+_, _≤_}
 use native.Mathlib.Omega.{arith}
@@ -12,6 +12,3 @@ count-within r before {count} {buffer} {out} e =
     let c : length (r .text) ≡ count = ap (λ (l : Left). l .count) e in
     let o : r .text ++ drop (length (r .text)) before ≡ out = ap (λ (l : Left). l .out) e in
     omega (arith, simp length-append at (ap length o))
-
-pub determined : (r : Run) (before : List ℕ) {one other : Left} → leaves r before ≡ one → leaves r before ≡ other → one ≡ other
-determined r before e f = sym e ∙ f

@@ -4,3 +4,6 @@ pub mod Records
 pub mod Steps
 pub mod Going
 pub mod Leaves
+pub mod Determined
+pub mod States
+pub mod WorkedTape

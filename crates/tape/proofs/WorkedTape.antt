@@ -1,0 +1,73 @@
+-- The worked tape of "The request tape", from its bytes to its lines: by the law that a run's lines are those of the run over states, and
+-- that run by computing. It holds whatever the buffer has in it at first.
+use mathlib.Core.List.{List, [], _∷_, _++_}
+use mathlib.Core.Option.{none}
+use mathlib.Core.Path.{_≡_, refl, ap, _∙_}
+use Prim.Native.Char.{code}
+use Prim.Native.Nat.{ℕ}
+use Prim.Native.String.{String}
+use Prim.Native.String as text
+use native.Mathlib.Omega.{arith}
+use lib.ListN.{length}
+use Rattle.words.specs.Choice.{if<, if=, when}
+use Rattle.words.specs.Words.{Bytes, digitsAt, wordAt}
+use Rattle.heads.specs.Heads.{blockSize}
+use Rattle.text.specs.Numeral.{numeral, numeralWith}
+use Rattle.paper.specs.Allowed.{allowed}
+use Rattle.paper.specs.Bins.{enter, first, leave, rebin, seek, used}
+use Rattle.paper.specs.Counting.{figures, greatestFree}
+use Rattle.paper.specs.Fresh.{fresh}
+use Rattle.paper.specs.GivingBack.{giveBack, giveBackLarge, giveBackSmall, heldAt, left, settle}
+use Rattle.paper.specs.Granting.{cutLow, smallestBin, take, takeLarge, takePart, takeSmall, takeWhole}
+use Rattle.paper.specs.Runs.{endsAt, from, replace, startsAt, sumOf, under}
+use Rattle.tape.specs.Lines.{beginOf, lineOf, restOf}
+use Rattle.tape.specs.Records.{readAt, withBody}
+use Rattle.tape.specs.Run.{runOf}
+use Rattle.tape.proofs.States.{lines-by-states, linesFrom, serveState}
+
+-- L 1024, T 10, T 100, T 61, T 200, G 172, T 32, T 72, G 172, G 276, T 100, G 556, S: a row each
+pub worked : List ℕ
+worked =
+    1 ∷ 0 ∷ 4 ∷ 0 ∷ 0 ∷
+    2 ∷ 10 ∷ 0 ∷ 0 ∷ 0 ∷
+    2 ∷ 100 ∷ 0 ∷ 0 ∷ 0 ∷
+    2 ∷ 61 ∷ 0 ∷ 0 ∷ 0 ∷
+    2 ∷ 200 ∷ 0 ∷ 0 ∷ 0 ∷
+    3 ∷ 172 ∷ 0 ∷ 0 ∷ 0 ∷
+    2 ∷ 32 ∷ 0 ∷ 0 ∷ 0 ∷
+    2 ∷ 72 ∷ 0 ∷ 0 ∷ 0 ∷
+    3 ∷ 172 ∷ 0 ∷ 0 ∷ 0 ∷
+    3 ∷ 20 ∷ 1 ∷ 0 ∷ 0 ∷
+    2 ∷ 100 ∷ 0 ∷ 0 ∷ 0 ∷
+    3 ∷ 44 ∷ 2 ∷ 0 ∷ 0 ∷
+    4 ∷ []
+
+-- the characters of a text, and a newline
+abbrev line : String → List ℕ
+line text.[] = 10 ∷ []
+line (text._∷_ c s) = code c ∷ line s
+
+pub worked-lines : List ℕ
+worked-lines =
+    line "1 L 0 1024" ++
+    line "2 T 0 1012" ++
+    line "3 T 0 172" ++
+    line "4 T 0 276" ++
+    line "5 T 0 348" ++
+    line "6 G 0 100" ++
+    line "7 T 0 972" ++
+    line "8 T 0 556" ++
+    line "9 G 5 0" ++
+    line "10 G 0 68" ++
+    line "11 T 0 172" ++
+    line "12 G 0 76" ++
+    line "13 S 0 4 368 0 1 416 484 412"
+
+computed : linesFrom 65536 (length worked) worked 0 1 none ≡ worked-lines
+unfolding worked worked-lines if< if= when wordAt digitsAt blockSize numeral numeralWith allowed enter first leave rebin seek used figures greatestFree fresh giveBack giveBackLarge giveBackSmall heldAt left settle cutLow smallestBin take takeLarge takePart takeSmall takeWhole endsAt from replace startsAt sumOf under beginOf lineOf restOf readAt withBody linesFrom serveState
+computed = refl
+
+pub worked-tape : (buffer : List ℕ) → Bytes buffer → length buffer ≡ 65536 → runOf worked buffer .text ≡ worked-lines
+unfolding worked
+worked-tape buffer h l =
+    lines-by-states worked buffer h (omega arith) ∙ ap (λ (room : ℕ). linesFrom room (length worked) worked 0 1 none) l ∙ computed
