@@ -7,7 +7,7 @@ use Rattle.paper.specs.declared.Answer.{Answer}
 use Rattle.paper.specs.declared.Answer.the-variants.{Done, Refused}
 use Rattle.paper.specs.declared.Tally.{Tally}
 use Rattle.paper.specs.Answers.{Out, out}
-use Rattle.pool.specs.Calls.{figures as tallyOf}
+use Rattle.pool.specs.Calls as call
 use Rattle.board.specs.Heard.{Halves, halves, heard, left, leaves, tallied, figures}
 
 pub done-halves : (v : ℕ) → v < 4294967296 → heard (Done v) ≡ halves v
@@ -27,6 +27,6 @@ pub told : (o : Out) {a : Answer} {s : List ℕ} {h : Halves} → o ≡ out a s 
 told o {s = s} e f = ap leaves e ∙ ap (λ (x : Halves). left x s) f
 
 -- the pool's figures, put into a list
-pub figures-told : (bs xs : List ℕ) {t : Tally} {o : Out} → t ≡ tallyOf bs → tallied t xs ≡ o → figures bs xs ≡ o
+pub figures-told : (bs xs : List ℕ) {t : Tally} {o : Out} → t ≡ call.figures bs → tallied t xs ≡ o → figures bs xs ≡ o
 unfolding figures
 figures-told bs xs e f = ap (λ (u : Tally). tallied u xs) (sym e) ∙ f

@@ -10,7 +10,7 @@ use Rattle.paper.specs.declared.Figures.{Figures}
 use Rattle.paper.specs.declared.Tally.{Tally}
 use Rattle.paper.specs.declared.Tally.the-variants.{Counted, Refused as Uncounted}
 use Rattle.paper.specs.Answers.{Out, out, number, sevenOf, value, not-53}
-use Rattle.pool.specs.Calls.{figures as tallyOf}
+use Rattle.pool.specs.Calls as call
 
 -- ---- one number
 
@@ -49,4 +49,4 @@ tallied (Counted f) xs = counted f xs
 tallied (Uncounted k) xs = out (Refused k) xs
 
 unfoldable pub figures : List ℕ → List ℕ → Out
-figures bs xs = tallied (tallyOf bs) xs
+figures bs xs = tallied (call.figures bs) xs

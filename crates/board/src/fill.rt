@@ -1,7 +1,7 @@
 // The figures in a lent list of seven numbers.
 ghost use mathlib.Core.Path.{_≡_};
 ghost use Rattle.paper.specs.Answers.{out};
-ghost use Rattle.board.specs.Heard.{counted as counted-of, tallied as tallied-of};
+ghost use Rattle.board.specs.Heard as board;
 use paper::Answer;
 use paper::Figures;
 use paper::Tally;
@@ -9,7 +9,7 @@ use paper::Tally;
 // The seven figures, in the paper's order; answers the first. Another list than one of seven numbers stays as it is, and is refused
 // with the number by which the class count refuses one that has not 53.
 fn counted(f: Figures, list: &mut [u32]) -> Answer
-    ensures { λ r. ⌜ counted-of f (now (list .entry)) ≡ out r (now (list .exit)) ⌝ }
+    ensures { λ r. ⌜ board.counted f (now (list .entry)) ≡ out r (now (list .exit)) ⌝ }
 {
     if list.len() != 7 {
         return Answer::Refused(paper::NOT_53);
@@ -26,7 +26,7 @@ fn counted(f: Figures, list: &mut [u32]) -> Answer
 
 // A refused tally leaves the list as it is.
 pub fn tallied(t: Tally, list: &mut [u32]) -> Answer
-    ensures { λ r. ⌜ tallied-of t (now (list .entry)) ≡ out r (now (list .exit)) ⌝ }
+    ensures { λ r. ⌜ board.tallied t (now (list .entry)) ≡ out r (now (list .exit)) ⌝ }
 {
     match t {
         Tally::Counted(f) => counted(f, list),

@@ -5,13 +5,14 @@ mod fill;
 mod halves;
 
 ghost use mathlib.Core.Path.{_≡_};
-ghost use Rattle.pool.specs.Calls.{layOut, inspect, take, giveBack, ask, classCount};
-ghost use Rattle.board.specs.Heard.{halves, heard, left, leaves, figures as figures-of};
+ghost use Rattle.pool.specs.Calls as call;
+ghost use Rattle.board.specs.Heard as board;
+ghost use Rattle.board.specs.Heard.{halves, heard, left, leaves};
 
 // Lays the buffer out as a fresh pool; answers its length.
 #[no_mangle]
 pub extern "C" fn pool_lay_out(pool: &mut [u8]) -> u64
-    ensures { λ r. ⌜ leaves (layOut (now (pool .entry))) ≡ left (halves r) (now (pool .exit)) ⌝ }
+    ensures { λ r. ⌜ leaves (call.layOut (now (pool .entry))) ≡ left (halves r) (now (pool .exit)) ⌝ }
 {
     halves::of(pool::lay_out(pool))
 }
@@ -19,7 +20,7 @@ pub extern "C" fn pool_lay_out(pool: &mut [u8]) -> u64
 // Whether the pool is sound; answers its length.
 #[no_mangle]
 pub extern "C" fn pool_inspect(pool: &[u8]) -> u64
-    ensures { λ r. ⌜ heard (inspect (now (pool .entry))) ≡ halves r ⌝ }
+    ensures { λ r. ⌜ heard (call.inspect (now (pool .entry))) ≡ halves r ⌝ }
 {
     halves::of(pool::inspect(pool))
 }
@@ -27,7 +28,7 @@ pub extern "C" fn pool_inspect(pool: &[u8]) -> u64
 // Grants a block for a payload of `size` bytes; answers where the payload starts.
 #[no_mangle]
 pub extern "C" fn pool_take(pool: &mut [u8], size: u32) -> u64
-    ensures { λ r. ⌜ leaves (take (now (pool .entry)) size) ≡ left (halves r) (now (pool .exit)) ⌝ }
+    ensures { λ r. ⌜ leaves (call.take (now (pool .entry)) size) ≡ left (halves r) (now (pool .exit)) ⌝ }
 {
     halves::of(pool::take(pool, size))
 }
@@ -35,7 +36,7 @@ pub extern "C" fn pool_take(pool: &mut [u8], size: u32) -> u64
 // Takes the block of the payload at `offset` back; answers the payload's bytes.
 #[no_mangle]
 pub extern "C" fn pool_give_back(pool: &mut [u8], offset: u32) -> u64
-    ensures { λ r. ⌜ leaves (giveBack (now (pool .entry)) offset) ≡ left (halves r) (now (pool .exit)) ⌝ }
+    ensures { λ r. ⌜ leaves (call.giveBack (now (pool .entry)) offset) ≡ left (halves r) (now (pool .exit)) ⌝ }
 {
     halves::of(pool::give_back(pool, offset))
 }
@@ -43,7 +44,7 @@ pub extern "C" fn pool_give_back(pool: &mut [u8], offset: u32) -> u64
 // The bytes of the payload at `offset`.
 #[no_mangle]
 pub extern "C" fn pool_ask(pool: &[u8], offset: u32) -> u64
-    ensures { λ r. ⌜ heard (ask (now (pool .entry)) offset) ≡ halves r ⌝ }
+    ensures { λ r. ⌜ heard (call.ask (now (pool .entry)) offset) ≡ halves r ⌝ }
 {
     halves::of(pool::ask(pool, offset))
 }
@@ -51,7 +52,7 @@ pub extern "C" fn pool_ask(pool: &[u8], offset: u32) -> u64
 // Fills the list with the seven figures; answers the first, how many blocks are held.
 #[no_mangle]
 pub extern "C" fn pool_figures(pool: &[u8], figures: &mut [u32]) -> u64
-    ensures { λ r. ⌜ leaves (figures-of (now (pool .entry)) (now (figures .entry))) ≡ left (halves r) (now (figures .exit)) ⌝ }
+    ensures { λ r. ⌜ leaves (board.figures (now (pool .entry)) (now (figures .entry))) ≡ left (halves r) (now (figures .exit)) ⌝ }
 {
     halves::of(fill::tallied(pool::figures(pool), figures))
 }
@@ -59,7 +60,7 @@ pub extern "C" fn pool_figures(pool: &[u8], figures: &mut [u32]) -> u64
 // Fills the 53 counters with the held blocks by size class; answers how many are held.
 #[no_mangle]
 pub extern "C" fn pool_class_count(pool: &[u8], counts: &mut [u32]) -> u64
-    ensures { λ r. ⌜ leaves (classCount (now (pool .entry)) (now (counts .entry))) ≡ left (halves r) (now (counts .exit)) ⌝ }
+    ensures { λ r. ⌜ leaves (call.classCount (now (pool .entry)) (now (counts .entry))) ≡ left (halves r) (now (counts .exit)) ⌝ }
 {
     halves::of(pool::class_count(pool, counts))
 }

@@ -1,4 +1,5 @@
 pub mod Kept
+pub mod KeptStands
 pub mod FreshSound
 pub mod TakeSmallKeeps
 pub mod TakeLargeKeeps

@@ -33,55 +33,52 @@ Reads bs misfit = Allowed (length bs) → ⊥
 Reads bs broken = Allowed (length bs) × (Sound bs → ⊥)
 Reads bs (sound s) = (S : Sound bs) × (S .state ≡ s)
 
+-- "Tests run in the order 1, 2, then the call's own": refused with the reading's number, or served from the blocks and lists that were read
+module _ {A : Type 0} where
+  abbrev pub byReading : Reading → (refused : ℕ → A) → (served : State → A) → A
+  byReading misfit refused served = refused not-allowed
+  byReading broken refused served = refused not-sound
+  byReading (sound s) refused served = served s
+
 -- ---- the calls
 
--- "Laying out returns n", and reads nothing
-unfoldable pub layOutCall : List ℕ → Out
-layOutCall bs = when (allowed (length bs)) (out (Done (length bs)) (write (sheet (fresh 1 (length bs))) bs)) (out (Refused not-allowed) bs)
-
-abbrev pub inspectCall : Reading → List ℕ → Answer
-inspectCall misfit bs = Refused not-allowed
-inspectCall broken bs = Refused not-sound
-inspectCall (sound s) bs = Done (length bs)
+-- "A refusal returns 0 beside its number and changes nothing."
+abbrev pub unchanged : List ℕ → ℕ → Out
+unchanged bs k = out (Refused k) bs
 
 -- the new blocks and lists over the old bytes
 abbrev pub leaves : Result → List ℕ → Out
 leaves r bs = out (r .answer) (write (sheet (r .state)) bs)
 
+-- "Laying out returns n", and reads nothing
+unfoldable pub layOutCall : List ℕ → Out
+layOutCall bs = when (allowed (length bs)) (out (Done (length bs)) (write (sheet (fresh 1 (length bs))) bs)) (unchanged bs not-allowed)
+
+abbrev pub inspectCall : Reading → List ℕ → Answer
+inspectCall r bs = byReading r Refused (λ s. Done (length bs))
+
 abbrev pub takeCall : Reading → List ℕ → ℕ → Out
-takeCall misfit bs size = out (Refused not-allowed) bs
-takeCall broken bs size = out (Refused not-sound) bs
-takeCall (sound s) bs size = leaves (take s size) bs
+takeCall r bs size = byReading r (unchanged bs) (λ s. leaves (take s size) bs)
 
 abbrev pub giveBackCall : Reading → List ℕ → ℕ → Out
-giveBackCall misfit bs offset = out (Refused not-allowed) bs
-giveBackCall broken bs offset = out (Refused not-sound) bs
-giveBackCall (sound s) bs offset = leaves (giveBack s offset) bs
+giveBackCall r bs offset = byReading r (unchanged bs) (λ s. leaves (giveBack s offset) bs)
 
 abbrev pub askCall : Reading → ℕ → Answer
-askCall misfit offset = Refused not-allowed
-askCall broken offset = Refused not-sound
-askCall (sound s) offset = ask s offset
+askCall r offset = byReading r Refused (λ s. ask s offset)
 
 -- "A refused lend returns the empty part at the pool's end.": where the part starts and where it ends
 abbrev pub lendFrom : Reading → List ℕ → ℕ → ℕ
-lendFrom misfit bs offset = length bs
-lendFrom broken bs offset = length bs
-lendFrom (sound s) bs offset = if= (heldAt s offset) 0 (length bs) offset
+lendFrom r bs offset = byReading r (λ k. length bs) (λ s. if= (heldAt s offset) 0 (length bs) offset)
 
 abbrev pub lendTo : Reading → List ℕ → ℕ → ℕ
-lendTo misfit bs offset = length bs
-lendTo broken bs offset = length bs
-lendTo (sound s) bs offset = if= (heldAt s offset) 0 (length bs) (offset + (heldAt s offset - 4))
+lendTo r bs offset = byReading r (λ k. length bs) (λ s. if= (heldAt s offset) 0 (length bs) (offset + (heldAt s offset - 4)))
 
 abbrev pub figuresCall : Reading → Tally
-figuresCall misfit = Uncounted not-allowed
-figuresCall broken = Uncounted not-sound
-figuresCall (sound s) = Counted (figures s)
+figuresCall r = byReading r Uncounted (λ s. Counted (figures s))
 
 -- "The class count returns the number of held blocks", and "the count fills a lent list of 53 numbers"
+unfoldable pub classCount : State → List ℕ → Out
+classCount s cs = if= (length cs) 53 (out (Done (sumOf heldOne (blocks s))) (classCounters s)) (unchanged cs not-53)
+
 abbrev pub classCountCall : Reading → List ℕ → Out
-classCountCall misfit cs = out (Refused not-allowed) cs
-classCountCall broken cs = out (Refused not-sound) cs
-classCountCall (sound s) cs =
-    if= (length cs) 53 (out (Done (sumOf heldOne (blocks s))) (classCounters s)) (out (Refused not-53) cs)
+classCountCall r cs = byReading r (unchanged cs) (λ s. classCount s cs)

@@ -13,24 +13,24 @@ use Rattle.paper.specs.Honest.{Honest}
 use Rattle.paper.specs.Sound.{Sound}
 use Rattle.paper.proofs.honest.Accepted.{accepted-honest, honest-accepted}
 use Rattle.paper.proofs.reads.PayloadWrites.{SameOutside, sound-same-outside}
-use Rattle.pool.specs.Read.{read}
+use Rattle.reading.specs.Read.{read}
 use Rattle.pool.specs.Calls.{inspect}
-use Rattle.pool.proofs.Readings.{reads, reading-unique}
+use Rattle.reading.proofs.Readings.{reads, by-reading}
 
 module _ (bs : List ℕ) (bytes : Bytes bs) where
   -- the answer is the one of the pool's only reading
-  by-reading : (x : Reading) → Reads bs x → inspect bs ≡ inspectCall x bs
+  inspect-by : (x : Reading) → Reads bs x → inspect bs ≡ inspectCall x bs
   unfolding inspect
-  by-reading x k = rw (reading-unique bs (read bs) x (reads bs bytes) k)
+  inspect-by x k = by-reading bs bytes Refused (λ s. Done (length bs)) x k
 
   pub refused-1 : (Allowed (length bs) → ⊥) → inspect bs ≡ Refused not-allowed
-  refused-1 h = by-reading misfit h
+  refused-1 h = inspect-by misfit h
 
   pub refused-2 : Allowed (length bs) → (Sound bs → ⊥) → inspect bs ≡ Refused not-sound
-  refused-2 a h = by-reading broken (a, h)
+  refused-2 a h = inspect-by broken (a, h)
 
   pub accepted-sound-pools : (S : Sound bs) → inspect bs ≡ Done (length bs)
-  accepted-sound-pools S = by-reading (sound (S .state)) (S, refl)
+  accepted-sound-pools S = inspect-by (sound (S .state)) (S, refl)
 
   pub accepted-is-honest : inspect bs ≡ Done (length bs) → Honest bs
   unfolding inspect

@@ -1,13 +1,4 @@
-pub mod Clearing
-pub mod Refusals
-pub mod Readings
-pub mod ByPaper
 pub mod Lent
-pub mod StoredSheet
-pub mod LayOutPaper
-pub mod TakePaper
-pub mod GiveBackPaper
-pub mod ClassPaper
 pub mod Demand3
 pub mod Determined
 pub mod Refused

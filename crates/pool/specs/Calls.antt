@@ -8,7 +8,7 @@ use Rattle.paper.specs.declared.Answer.{Answer}
 use Rattle.paper.specs.declared.Tally.{Tally}
 use Rattle.paper.specs.Answers.{Out}
 use Rattle.paper.specs.Calls.{layOutCall, inspectCall, takeCall, giveBackCall, askCall, lendFrom, lendTo, figuresCall, classCountCall}
-use Rattle.pool.specs.Read.{read}
+use Rattle.reading.specs.Read.{read}
 
 unfoldable pub layOut : List ℕ → Out
 layOut bs = layOutCall bs

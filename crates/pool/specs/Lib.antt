@@ -1,4 +1,2 @@
 pub mod Calls
-pub mod Fresh
-pub mod Models
-pub mod Read
+pub mod Parts

@@ -1,6 +1,7 @@
 // One request is served: the pool is called, and its answer printed.
 ghost use mathlib.Core.Path.{_≡_};
-ghost use Rattle.tape.specs.Serve.{pool, accepted as Serve·accepted};
+ghost use Rattle.tape.specs.Serve as tape;
+ghost use Rattle.tape.specs.Serve.{pool};
 ghost use Rattle.tape.specs.Step.{Stepped};
 use crate::calls;
 use crate::lines;
@@ -15,7 +16,7 @@ pub struct Served {
 
 // The size of the pool after a lay out over `new` bytes: a refused one keeps the old pool.
 fn accepted(a: Answer, new: u32, old: u32) -> u32
-    ensures { λ r. ⌜ r ≡ Serve·accepted a new old ⌝ }
+    ensures { λ r. ⌜ r ≡ tape.accepted a new old ⌝ }
 {
     match a {
         Answer::Done(_) => new,

@@ -1,7 +1,7 @@
 // The figures of a pool.
 ghost use mathlib.Core.Path.{_≡_};
 ghost use Prim.Native.Nat.{max};
-ghost use Rattle.walk.specs.Tallies.{counted as counted-of, tallyRun, tally as tally-of};
+ghost use Rattle.walk.specs.Tallies as model;
 use heads::Head;
 use paper::BLOCKS;
 use paper::END;
@@ -18,7 +18,7 @@ fn greater(a: u32, b: u32) -> u32
 
 // With one block more.
 fn counted(t: Figures, head: Head) -> Figures
-    ensures { λ r. ⌜ r ≡ counted-of t head ⌝ }
+    ensures { λ r. ⌜ r ≡ model.counted t head ⌝ }
 {
     let mut next = t;
     if head.held {
@@ -37,7 +37,7 @@ fn counted(t: Figures, head: Head) -> Figures
 
 // With the blocks from `from` to `to`.
 fn tally_run(pool: &[u8], from: u32, to: u32, first: Figures) -> Figures
-    ensures { λ r. ⌜ r ≡ tallyRun (now (pool .entry)) from to first ⌝ }
+    ensures { λ r. ⌜ r ≡ model.tallyRun (now (pool .entry)) from to first ⌝ }
 {
     let end = to as usize;
     let mut at = from as usize;
@@ -54,7 +54,7 @@ fn tally_run(pool: &[u8], from: u32, to: u32, first: Figures) -> Figures
 }
 
 pub fn tally(pool: &[u8]) -> Figures
-    ensures { λ r. ⌜ r ≡ tally-of (now (pool .entry)) ⌝ }
+    ensures { λ r. ⌜ r ≡ model.tally (now (pool .entry)) ⌝ }
 {
     let start = words::get32(pool, START);
     let end = words::get32(pool, END);

@@ -2,13 +2,14 @@
 -- refused or not.
 use mathlib.Core.List.{List, [], _∷_}
 use mathlib.Core.Logic.{inl}
-use mathlib.Core.Path.{_∙_, _≡_, ap, refl, subst, sym}
+use mathlib.Core.Path.{_≡_, ap, refl, subst, sym}
 use Prim.Native.Nat.{ℕ}
 use lib.ListN.{length}
 use Rattle.paper.proofs.reads.Allowed.{allowed-yes}
 use Rattle.paper.proofs.keeps.BackKeeps.{giveBack-keeps}
 use Rattle.paper.proofs.keeps.FreshSound.{fresh-ends, fresh-well-formed}
 use Rattle.paper.proofs.keeps.Kept.{Kept}
+use Rattle.paper.proofs.keeps.KeptStands.{kept-stands}
 use Rattle.paper.proofs.reads.RoundTrip.{write-stands}
 use Rattle.paper.proofs.reads.Standing.{sound-stands, stands-sound}
 use Rattle.paper.proofs.reads.Stands.{Stands}
@@ -53,7 +54,7 @@ laid-out-sound bs a h =
 kept-sound : (s s' : State) (bs : List ℕ) → Stands s bs → Bytes bs → Kept s s' → SoundBytes (write (sheet s') bs)
 kept-sound s s' bs S h k =
     record {
-      is-sound = stands-sound s' (write (sheet s') bs) (write-stands s' (k .well-formed) (k .same-top ∙ S .layout-1) bs (k .ends ∙ S .ends)) .0;
+      is-sound = stands-sound s' (write (sheet s') bs) (kept-stands s s' bs S k) .0;
       bytes = write-bytes (sheet s') bs h;
     }
 

@@ -1,6 +1,7 @@
--- pool::bounds meets its contract, way by way.
+-- pool::bounds meets its contract, by what asking answers.
 use borrow.Author.Needs.{needs}
-use Rattle.pool.proofs.Lent.{bounds-refused, bounds-out, bounds-held}
+use mathlib.Core.Path.{sym, _∙_}
+use Rattle.pool.proofs.Lent.{bounds-refused, bounds-held}
 use Rattle.pool.proofs.parts.bounds.Statement.{statement}
 use Rattle.pool.proofs.parts.bounds.Tie as tie
 
@@ -10,8 +11,8 @@ bounds-spec =
     (tie.spec
     (λ c κs. search needs)
     (λ c. search needs)
-    (λ c. bounds-refused _ _ _ (c .before .lent .ensures) (c .if1 .taken))
     (λ c. search needs)
-    (λ c. bounds-out _ _ _ (c .before .before .lent .ensures) (c .before .if1 .left) (c .if2 .taken))
+    (λ c. bounds-refused _ _ _ (sym (c .before .before .ask .ensures) ∙ c .enum-told .given .1))
     (λ c. search needs)
-    (λ c. bounds-held _ _ _ (c .before .before .lent .ensures) (c .before .if1 .left) (c .if2 .left)))
+    (λ c. search needs)
+    (λ c. bounds-held _ _ _ (sym (c .before .before .before .ask .ensures) ∙ c .before .len .given .1)))

@@ -1,0 +1,2 @@
+pub mod LayingOut
+pub mod Models
