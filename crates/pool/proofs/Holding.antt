@@ -20,17 +20,18 @@ use Rattle.paper.specs.Sheet.{write}
 use Rattle.paper.proofs.keeps.BackKeeps.{giveBack-keeps}
 use Rattle.paper.proofs.keeps.BackThenHeld.{giveBack-then-others}
 use Rattle.paper.proofs.keeps.Kept.{Kept}
+use Rattle.paper.proofs.keeps.KeptStands.{kept-stands}
 use Rattle.paper.proofs.keeps.TakeKeeps.{take-keeps}
 use Rattle.paper.proofs.keeps.TakeThenHeld.{take-keeps-held as take-keeps-held-state}
-use Rattle.paper.proofs.reads.PayloadWrites.{held-within, payloads-apart, stands-payload-replaced, written-payload}
-use Rattle.paper.proofs.reads.RoundTrip.{write-stands}
+use Rattle.paper.proofs.reads.PayloadWrites.{payloads-apart, stands-payload-replaced, written-payload}
 use Rattle.paper.proofs.reads.Standing.{sound-stands, stands-sound}
 use Rattle.paper.proofs.reads.Stands.{Stands}
+use Rattle.paper.proofs.runs.HeldWalk.{held-within}
 use Rattle.paper.proofs.sheet.Parts.{part-replaced, part-same, replaced-below, replaced-bytes, replaced-length, replaced-past, replacedPart}
 use Rattle.paper.proofs.sheet.WrittenBytes.{write-bytes}
 use Rattle.pool.specs.Calls.{take, giveBack, ask, part, partFrom, partTo}
-use Rattle.pool.specs.Read.{read}
-use Rattle.pool.proofs.Readings.{reads, reading-unique}
+use Rattle.reading.specs.Read.{read}
+use Rattle.reading.proofs.Readings.{reads, reading-unique}
 
 -- the pool holds a payload at an offset: asking tells its length, and lending gives its bytes
 pub record Held (bs : List ℕ) (offset : ℕ) (payload : List ℕ) : Type 0 where
@@ -86,7 +87,7 @@ module _ (bs : List ℕ) (offset : ℕ) where
         let S = reads-stands bs s r in
         let k : length (payloadOf s bs offset) ≡ heldAt s offset - 4 =
         length-take-le (heldAt s offset - 4) (drop offset bs)
-        (omega (arith, length-drop offset bs, held-within s (S .well-formed) offset l, S .ends)) in
+        (omega (arith, length-drop offset bs, held-within s (S .well-formed) offset (omega arith) .ends, S .ends)) in
         record {
           asked =
               ap (λ (x : Reading). askCall x offset) (read-is bs bytes s r) ∙ if=-no (heldAt s offset) 0 _ _ (omega arith) ∙ ap Done (sym k);
@@ -102,7 +103,7 @@ kept-held : (bs : List ℕ) → Bytes bs → (s s' : State) → Reads bs (sound 
 kept-held bs bytes s s' r k offset l e =
     let S = reads-stands bs s r in
     let ends : end s' ≡ length bs = k .ends ∙ S .ends in
-    let S' = write-stands s' (k .well-formed) (k .same-top ∙ S .layout-1) bs ends in
+    let S' = kept-stands s s' bs S k in
     subst (Held (write (sheet s') bs) offset)
     (written-payload s' (k .well-formed) bs ends offset (omega arith) ∙ ap (λ (z : ℕ). firsts (z - 4) (drop offset bs)) e)
     (by-held (write (sheet s') bs) offset (write-bytes (sheet s') bs bytes) s' (stands-sound s' (write (sheet s') bs) S') (omega arith))
@@ -117,6 +118,9 @@ module _ (bs : List ℕ) (bytes : Bytes bs) (offset : ℕ) (payload : List ℕ) 
 
   stands : Stands s bs
   stands = reads-stands bs s (by .reading)
+
+  in-pool : offset + (heldAt s offset - 4) ≤ end s
+  in-pool = held-within s (stands .well-formed) offset (λ e. omega (arith, by .one)) .ends
 
   -- what a call leaves that keeps this block held
   left-held : (after : List ℕ) (s' : State) → after ≡ write (sheet s') bs → Kept s s' → heldAt s' offset ≡ heldAt s offset → Held after offset payload
@@ -145,10 +149,10 @@ module _ (bs : List ℕ) (bytes : Bytes bs) (offset : ℕ) (payload : List ℕ) 
     long =
         ap length (by .bytes-of)
         ∙ length-take-le (heldAt s offset - 4) (drop offset bs)
-        (omega (arith, length-drop offset bs, held-within s (stands .well-formed) offset (by .one), stands .ends))
+        (omega (arith, length-drop offset bs, in-pool, stands .ends))
 
     inside : a + length part ≤ length bs
-    inside = omega (arith, long, held-within s (stands .well-formed) offset (by .one), stands .ends)
+    inside = omega (arith, long, in-pool, stands .ends)
 
     written-reads : Reads (replacedPart bs a part) (sound s)
     written-reads =
@@ -160,7 +164,7 @@ module _ (bs : List ℕ) (bytes : Bytes bs) (offset : ℕ) (payload : List ℕ) 
         let k = same-state other old g in
         subst (Held (replacedPart bs a part) other)
         (part-same other (heldAt s other - 4) bs (replacedPart bs a part) (replaced-length bs a part inside)
-        (omega (arith, held-within s (stands .well-formed) other (k .one), stands .ends))
+        (omega (arith, held-within s (stands .well-formed) other (λ e. omega (arith, k .one)) .ends, stands .ends))
         (λ i b. elsewhere i b (payloads-apart s (stands .well-formed) other offset (k .one) (by .one) n))
         ∙ sym (k .bytes-of))
         (by-held (replacedPart bs a part) other (replaced-bytes bs a part inside bytes is-bytes) s written-reads (k .one))
@@ -182,6 +186,6 @@ module _ (bs : List ℕ) (bytes : Bytes bs) (offset : ℕ) (payload : List ℕ) 
     write-held =
         subst (Held (replacedPart bs a part) offset)
         (part-replaced bs offset (heldAt s offset - 4) a part from (omega (arith, long))
-        (omega (arith, held-within s (stands .well-formed) offset (by .one), stands .ends))
+        (omega (arith, in-pool, stands .ends))
         ∙ ap (λ (l : List ℕ). replacedPart l (a - offset) part) (sym (by .bytes-of)))
         (by-held (replacedPart bs a part) offset (replaced-bytes bs a part inside bytes is-bytes) s written-reads (by .one))

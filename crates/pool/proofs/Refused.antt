@@ -7,23 +7,21 @@ use Prim.Native.Nat.{ℕ}
 use native.Mathlib.Omega.{arith}
 use lib.ListN.{length}
 use Rattle.words.specs.Choice.{when-yes, when-no, if=-yes, if=-no, by=}
-use Rattle.words.specs.Words.{Bytes}
 use Rattle.paper.specs.declared.Answer.the-variants.{Done, Refused}
 use Rattle.paper.specs.declared.Tally.{Tally}
 use Rattle.paper.specs.declared.Tally.the-variants.{Refused as Uncounted}
 use Rattle.paper.specs.Allowed.{allowed}
 use Rattle.paper.specs.Answers.{Out, out, number, value, tally-number, figures-of, sevenOf}
 use Rattle.paper.specs.Blocks.{State}
-use Rattle.paper.specs.Calls.{Reading, Reads, misfit, broken, sound, layOutCall, takeCall, giveBackCall, classCountCall}
+use Rattle.paper.specs.Calls.{Reading, misfit, broken, sound, layOutCall, takeCall, giveBackCall, classCount as classCountOf, classCountCall}
 use Rattle.paper.specs.Governed.{sheet}
 use Rattle.paper.specs.Sheet.{Holds, write}
 use Rattle.paper.proofs.keeps.BackKeeps.{giveBack-refused}
 use Rattle.paper.proofs.keeps.TakeKeeps.{take-refused}
 use Rattle.paper.proofs.reads.Stands.{Stands}
 use Rattle.pool.specs.Calls.{layOut, inspect, take, giveBack, ask, figures, classCount}
-use Rattle.pool.specs.Read.{read}
-use Rattle.pool.proofs.ByPaper.{stands-for}
-use Rattle.pool.proofs.Readings.{reads}
+use Rattle.reading.specs.Read.{read}
+use Rattle.reading.proofs.Asked.{found}
 
 -- a public call on a pool of lent bytes, with its number or its lent list
 pub data Call : Type 0 where
@@ -69,35 +67,36 @@ same-written : (bs : List ℕ) (s s' : State) → Stands s bs → s' ≡ s → w
 unfolding Holds
 same-written bs s s' S e = ap (λ (t : State). write (sheet t) bs) e ∙ S .holds
 
-takes-unchanged : (bs : List ℕ) (size : ℕ) (x : Reading) → Reads bs x → Unchanged bs (takeCall x bs size)
+takes-unchanged : (bs : List ℕ) (size : ℕ) (x : Reading) → read bs ≡ x → Unchanged bs (takeCall x bs size)
 takes-unchanged bs size misfit r k e = refl
 takes-unchanged bs size broken r k e = refl
-takes-unchanged bs size (sound s) r k e = same-written bs s _ (stands-for bs s r) (take-refused s size k e)
+takes-unchanged bs size (sound s) r k e = same-written bs s _ (found bs s r .stands) (take-refused s size k e)
 
-gives-unchanged : (bs : List ℕ) (offset : ℕ) (x : Reading) → Reads bs x → Unchanged bs (giveBackCall x bs offset)
+gives-unchanged : (bs : List ℕ) (offset : ℕ) (x : Reading) → read bs ≡ x → Unchanged bs (giveBackCall x bs offset)
 gives-unchanged bs offset misfit r k e = refl
 gives-unchanged bs offset broken r k e = refl
-gives-unchanged bs offset (sound s) r k e = same-written bs s _ (stands-for bs s r) (giveBack-refused s offset k e .0)
+gives-unchanged bs offset (sound s) r k e = same-written bs s _ (found bs s r .stands) (giveBack-refused s offset k e .0)
 
 counts-unchanged : (cs : List ℕ) (x : Reading) → Unchanged cs (classCountCall x cs)
+unfolding classCountOf
 counts-unchanged cs misfit = λ k e. refl
 counts-unchanged cs broken = λ k e. refl
 counts-unchanged cs (sound s) =
     by= (length cs) 53 (λ l. rw (if=-yes (length cs) 53 _ _ l) (done-unchanged cs _ _)) (λ l. rw (if=-no (length cs) 53 _ _ l) (λ k e. refl))
 
-unchanged : (bs : List ℕ) → Bytes bs → (c : Call) → Unchanged (lent bs c) (outcome bs c)
+stays : (bs : List ℕ) (c : Call) → Unchanged (lent bs c) (outcome bs c)
 unfolding take giveBack classCount
-unchanged bs bytes lays = lays-unchanged bs
-unchanged bs bytes inspects = λ k e. refl
-unchanged bs bytes (takes size) = takes-unchanged bs size (read bs) (reads bs bytes)
-unchanged bs bytes (gives offset) = gives-unchanged bs offset (read bs) (reads bs bytes)
-unchanged bs bytes (asks offset) = λ k e. refl
-unchanged bs bytes (counts cs) = counts-unchanged cs (read bs)
+stays bs lays = lays-unchanged bs
+stays bs inspects = λ k e. refl
+stays bs (takes size) = takes-unchanged bs size (read bs) refl
+stays bs (gives offset) = gives-unchanged bs offset (read bs) refl
+stays bs (asks offset) = λ k e. refl
+stays bs (counts cs) = counts-unchanged cs (read bs)
 
 -- "A refusal returns 0 beside its number and changes nothing."
-pub refused-changes-nothing : (bs : List ℕ) → Bytes bs → (c : Call) (k : ℕ) → outcome bs c .answer ≡ Refused k
+pub refused-changes-nothing : (bs : List ℕ) (c : Call) (k : ℕ) → outcome bs c .answer ≡ Refused k
     → (number (outcome bs c .answer) ≡ k) × (value (outcome bs c .answer) ≡ 0) × (outcome bs c .after ≡ lent bs c)
-refused-changes-nothing bs bytes c k e = (ap number e, ap value e, unchanged bs bytes c k e)
+refused-changes-nothing bs c k e = (ap number e, ap value e, stays bs c k e)
 
 -- "Refused figures are seven zeros": the answer's figures, as the list that a caller hears
 pub refused-figures : (bs : List ℕ) (k : ℕ) → figures bs ≡ Uncounted k

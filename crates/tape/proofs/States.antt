@@ -26,6 +26,7 @@ use Rattle.paper.specs.Sheet.{write}
 use Rattle.paper.proofs.keeps.BackKeeps.{giveBack-keeps}
 use Rattle.paper.proofs.keeps.FreshSound.{fresh-ends, fresh-well-formed}
 use Rattle.paper.proofs.keeps.Kept.{Kept}
+use Rattle.paper.proofs.keeps.KeptStands.{kept-stands}
 use Rattle.paper.proofs.keeps.TakeKeeps.{take-keeps}
 use Rattle.paper.proofs.reads.Allowed.{allowed-inv}
 use Rattle.paper.proofs.reads.RoundTrip.{write-stands}
@@ -34,8 +35,8 @@ use Rattle.paper.proofs.reads.Stands.{Stands}
 use Rattle.paper.proofs.sheet.Written.{length-write}
 use Rattle.paper.proofs.sheet.WrittenBytes.{write-bytes}
 use Rattle.pool.specs.Calls.{layOut, take, giveBack, figures}
-use Rattle.pool.specs.Read.{read}
-use Rattle.pool.proofs.Readings.{reads, reading-unique}
+use Rattle.reading.specs.Read.{read}
+use Rattle.reading.proofs.Readings.{reads, reading-unique}
 use Rattle.tape.specs.declared.request.Request.{Request}
 use Rattle.tape.specs.declared.request.Request.the-variants.{LayOut, Take, GiveBack, Figures}
 use Rattle.tape.specs.declared.request.Record.{Record}
@@ -172,7 +173,7 @@ module _ (room : ℕ) (p : Pool) where
     kept-for : (s' : State) → Kept s s' → StandsFor room (pool (p .n) (write (sheet s') first ++ drop (p .n) (p .buffer))) (some s')
     kept-for s' k =
         written-for room (p .n) (p .buffer) s' (S .bytes) (S .long) (S .for .0)
-        (write-stands s' (k .well-formed) (k .same-top ∙ S .for .1 .layout-1) first (k .ends ∙ S .for .1 .ends))
+        (kept-stands s s' first (S .for .1) k)
 
 -- ---- each kind of request
 

@@ -10,7 +10,7 @@ use lib.ListN.{drop, getD, length, take as firsts}
 use Rattle.paper.proofs.keeps.BackKeeps.{held-sized}
 use Rattle.paper.proofs.sheet.Fields.{at-block}
 use Rattle.paper.proofs.runs.HeldPlaces.{held-at-lies, held-place}
-use Rattle.paper.proofs.runs.HeldWalk.{held-in}
+use Rattle.paper.proofs.runs.HeldWalk.{held-in, held-within}
 use Rattle.paper.proofs.reads.Standing.{sound-stands, stands-sound}
 use Rattle.paper.proofs.reads.Stands.{Stands}
 use Rattle.paper.proofs.runs.Places.{in-apart}
@@ -97,17 +97,6 @@ payloads-apart s W offset other l m n =
     go (inr (inl e)) = inl (omega (arith, held-place s offset l .0, held-place s other m .0))
     go (inr (inr e)) = inr (omega (arith, held-place s offset l .0, held-place s other m .0))
 
--- the payload at an offset ends within the pool
-pub held-within : (s : State) → WellFormed s → (offset : ℕ) → 1 ≤ heldAt s offset → offset + (heldAt s offset - 4) ≤ end s
-held-within s W offset l =
-    let h = held-in s (offset - 4) (heldAt s offset) (held-at-lies s W offset l) in
-    omega (
-      arith,
-      held-place s offset l .0,
-      held-sized s W offset l,
-      in-high (blocks s) 168 1 (offset - 4) (block (heldAt s offset) held) (h .0) (h .1),
-    )
-
 -- byte i of the payload at an offset
 pub held-in-payload : (s : State) → WellFormed s → (offset : ℕ) → 1 ≤ heldAt s offset → (i : ℕ) → i < heldAt s offset - 4 → InPayload s (offset + i)
 held-in-payload s W offset l i b =
@@ -119,9 +108,9 @@ held-in-payload s W offset l i b =
 pub written-payload : (s : State) → WellFormed s → (bs : List ℕ) → end s ≡ length bs → (offset : ℕ) → 1 ≤ heldAt s offset
     → firsts (heldAt s offset - 4) (drop offset (write (sheet s) bs)) ≡ firsts (heldAt s offset - 4) (drop offset bs)
 written-payload s W bs e offset l =
-    let m = held-within s W offset l in
-    part-same offset (heldAt s offset - 4) bs (write (sheet s) bs) (length-write (sheet s) bs) (omega arith)
-    (λ i b. write-keeps (sheet s) bs (offset + i) (omega arith)
+    let m = held-within s W offset (omega arith) in
+    part-same offset (heldAt s offset - 4) bs (write (sheet s) bs) (length-write (sheet s) bs) (omega (arith, m .ends))
+    (λ i b. write-keeps (sheet s) bs (offset + i) (omega (arith, m .ends))
     (payload-ungoverned s (W .sized) (offset + i) (held-in-payload s W offset l i b)))
 
 -- ---- of a sound pool
