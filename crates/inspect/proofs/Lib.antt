@@ -1,11 +1,2 @@
-pub mod Guards
-pub mod MarkLists
-pub mod Scanning
-pub mod Chains
-pub mod Passing
-pub mod Accept
-pub mod Build
-pub mod Simulation
 pub mod Decide
 pub mod Whole
-mod Tried

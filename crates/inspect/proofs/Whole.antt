@@ -6,18 +6,20 @@ use Prim.Native.Nat.{_+_, _-_, _≤_, ℕ}
 use native.Mathlib.Omega.{arith}
 use lib.ListN.{length, replicate}
 use borrow.Author.Tests.{not-false, not-true}
-use Rattle.inspect.proofs.Guards.{guard-fail, guard-inv, guard-pass, guard-same, guard-yes, no-both, off, pass-no, passed}
-use Rattle.inspect.specs.Contract.{pick-seen, to-seen}
-use Rattle.inspect.specs.Inspection.{E, R, false-tests, if-seen, inspect, inspected, rest-between, rest-tests, scanned, scanned-between, size-tests}
-use Rattle.inspect.specs.Lists.{lists}
-use Rattle.inspect.specs.MarkSets.{bitMarks}
-use Rattle.inspect.specs.Runs.{Scanned}
-use Rattle.inspect.specs.Tests.{guard, holds, pass, same}
+use Rattle.guards.proofs.Guards.{guard-fail, guard-inv, guard-pass, guard-same, guard-yes, no-both, off, pass-no, passed}
+use Rattle.runs.specs.Contract.{pick-seen, to-seen}
+use Rattle.header.specs.Header.{E, R, false-tests, rest-between, rest-tests}
+use Rattle.runs.specs.Runs.{if-seen, scanned-between, Scanned}
+use Rattle.accept.specs.Inspect.{inspect, scanned, size-tests}
+use Rattle.inspect.specs.Inspection.{inspected}
+use Rattle.lists.specs.Lists.{lists}
+use Rattle.marks.specs.MarkSets.{bitMarks}
+use Rattle.guards.specs.Tests.{guard, holds, pass, same}
 use Rattle.paper.proofs.reads.Allowed.{allowed-inv}
 use Rattle.paper.specs.Allowed.{allowed}
 use Rattle.words.specs.Choice.{if=, if=-no, if=-yes}
 use Rattle.words.specs.Words.{wordAt}
-use Rattle.inspect.specs.declared.runs.Seen.{Seen}
+use Rattle.runs.specs.declared.Seen.{Seen}
 
 pick-allowed : (n : ℕ) {b : Bool} → b ≡ allowed n → not b ≡ false → pass (holds (allowed n) ∷ []) ≡ true
 pick-allowed n e h = guard-yes (holds (allowed n) ∷ []) false true (passed e h, tt)

@@ -1,9 +1,5 @@
 // Whether a pool is sound: one linear pass over the blocks, one along the lists of the bins.
 // Nothing is believed before it was tested, and every function is total: it may be asked about any bytes.
-mod fields;
-mod lists;
-mod runs;
-
 ghost use mathlib.Core.Path.{_≡_};
 ghost use Rattle.paper.specs.Allowed.{allowed as allowed-of};
 ghost use Rattle.inspect.specs.Inspection.{inspected};
@@ -41,10 +37,10 @@ fn inspect(pool: &[u8]) -> bool
     }
     let a = words::get32(pool, START);
     let b = words::get32(pool, END);
-    if !fields::remainder_ok(pool, a, b) {
+    if !header::remainder_ok(pool, a, b) {
         return false;
     }
-    if !fields::false_block_ok(pool) {
+    if !header::false_block_ok(pool) {
         return false;
     }
     let mut m = [0u64; 128];

@@ -1,4 +1,5 @@
 -- The laws of marks: what is put at a place is there, and every other place keeps its own. And what the code computes.
+use mathlib.Core.Bool.{Bool, false}
 use mathlib.Core.List.{List}
 use mathlib.Core.Logic.{_≢_, ⊎-elim}
 use mathlib.Core.Path.{_∙_, _≡_, ap, ap₂, subst, sym}
@@ -6,12 +7,15 @@ use Prim.Native.Nat.{_%_, _*_, _+_, _-_, _/_, _<_, _^_, _≤_, max, suc, ℕ}
 use native.Mathlib.Decide.{ℕ-discrete}
 use native.Mathlib.Nat.{add-mul, add-zero, div-add-mod', div-div-eq-div-mul, div-eq-of-lt, mod-eq-of-lt, mod-lt, mul-add-div-right, mul-assoc, one-mul, pow-suc, zero-div}
 use native.Mathlib.Omega.{arith}
+use lib.Dec.{eqb, ltb}
 use lib.Bits.{and-block, and-mask, and-zero-r, bitAnd, bitOr, or-block, or-step, or-zero-r}
 use lib.ListN.{List·getD-eq-default, getD, length, length-set, set}
 use lib.Pow.{pow-add, pow-lt, pow-pos}
 use lib.Seq.{getD-set-other, getD-set-same}
+use borrow.Author.Tests.{eq-eqb, le-ltb, lt-ltb, ne-eqb}
 use Rattle.marks.specs.Marks.{bit, bitAt, putBit, putBitAt}
-use Rattle.words.specs.Choice.{lt?}
+use Rattle.marks.specs.MarkSets.{markAt}
+use Rattle.words.specs.Choice.{by=, if=-no, if=-yes, lt?}
 
 -- ---- one word
 
@@ -130,3 +134,16 @@ unfolding putBitAt
 stored-out ws i =
     ap (λ (x : ℕ). set ws (i / 64) x)
     (ap (λ (m : ℕ). getD ws (i / 64) 0 - bitAnd (getD ws (i / 64) 0) m) (shifted (i % 64) (omega arith)) ∙ sub-put (getD ws (i / 64) 0) (i % 64))
+
+-- ---- the mark of a start
+
+pub mark-yes : (m : List ℕ) (q : ℕ) (b : Bool) → q % 8 ≡ 0 → b ≡ eqb (bitAt m (q / 8)) 1 → b ≡ ltb 0 (markAt m q)
+unfolding markAt bitAt
+mark-yes m q b e h =
+    h ∙ by= (bitAt m (q / 8)) 1
+    (λ y. eq-eqb _ _ y ∙ sym (lt-ltb 0 (markAt m q) (omega (arith, if=-yes {A = ℕ} (q % 8) 0 (bitAt m (q / 8)) 0 e))))
+    (λ n. ne-eqb _ _ n ∙ sym (le-ltb 0 (markAt m q) (omega (arith, if=-yes {A = ℕ} (q % 8) 0 (bitAt m (q / 8)) 0 e))))
+
+pub mark-no : (m : List ℕ) (q : ℕ) → (q % 8 ≡ 0 → ⊥) → false ≡ ltb 0 (markAt m q)
+unfolding markAt
+mark-no m q e = sym (le-ltb 0 (markAt m q) (omega (arith, if=-no {A = ℕ} (q % 8) 0 (bitAt m (q / 8)) 0 e)))

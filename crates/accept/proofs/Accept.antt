@@ -1,0 +1,337 @@
+-- The inspection accepts every sound pool: what the pool reads passes each test.
+use mathlib.Core.Bool.{false, true}
+use mathlib.Core.List.{List, [], _∷_}
+use mathlib.Core.Logic.{_≢_, _⊎_, inl, inr}
+use mathlib.Core.Option.{some}
+use mathlib.Core.Path.{_∙_, _≡_, ap, refl, subst, sym}
+use Prim.Native.Nat.{_%_, _*_, _+_, _-_, _<_, _≤_, suc, zero, ℕ}
+use native.Mathlib.Omega.{arith}
+use lib.ListN.{length}
+use Rattle.heads.specs.Links.{followed, linkWord}
+use Rattle.accept.proofs.Chains.{LinkedL, LinkedS}
+use Rattle.guards.proofs.Guards.{guard-yes}
+use Rattle.accept.proofs.MarkLists.{linked-from, listMarks, next-in, prev-in}
+use Rattle.accept.proofs.Passing.{chain-yes, smalls-yes}
+use Rattle.accept.proofs.Scanning.{Facts, Foot, Run, count-push, push, scan-yes}
+use Rattle.header.specs.Header.{cleared, false-tests, rest-tests}
+use Rattle.runs.specs.Runs.{if-seen, Scanned, scan, seen, stray}
+use Rattle.heads.specs.Heads.{sizeAt}
+use Rattle.accept.specs.Inspect.{inspect, scanned, size-tests}
+use Rattle.lists.specs.Lists.{Left, chain, if-left, large-tests, lists, nextBin, nextLarge, nextSmall, small-tests}
+use Rattle.guards.specs.Tests.{guard, same}
+use Rattle.paper.proofs.reads.Allowed.{allowed-yes}
+use Rattle.paper.proofs.bins.Bins.{count-nil, first-count}
+use Rattle.paper.proofs.bins.Distances.{followed-linkWord, linkWord-small}
+use Rattle.paper.proofs.sheet.Fields.{at-back, at-foot, at-level, at-word, false-word}
+use Rattle.paper.proofs.bins.Listed.{freeAt-append, loose}
+use Rattle.paper.proofs.reads.Readings.{end-big, head-reads, header-reads, low-reads, next-reads, no-zero, reads, rest-reads, small-reads, start-of, top-reads}
+use Rattle.paper.proofs.bins.Seek.{seek-cong, seek-spec}
+use Rattle.paper.proofs.runs.Walk.{In, flagPast, freeSum-append, freeSum-le, in-aligned, in-flag, in-high, in-left, in-mid, in-sized, sized-eight, sized-parts, total-append}
+use Rattle.paper.specs.Bins.{count, first, seek}
+use Rattle.paper.specs.Blocks.{Block, Kind, State, block, blocks, end, free, freeSum, held, remainder, total}
+use Rattle.paper.specs.Governed.{above, headWord, headerWord, height, index, link, reach, sheet}
+use Rattle.paper.specs.Sheet.{Holds}
+use Rattle.paper.specs.Sound.{High, Low, Sized, WellFormed, freeAt}
+use Rattle.words.specs.Choice.{by<, by=, if<, if<-no, if<-yes, if=, if=-no, if=-yes}
+use Rattle.words.specs.Words.{wordAt}
+
+pub low-run : (xs : List Block) (bs : List ℕ) → Low xs → Sized xs → Run bs 0 1 xs
+low-run [] bs h s = refl
+low-run (block z held ∷ xs) bs h s = ((s .0 .0, if<-no z 72 _ _ (h .0), s .0 .1), low-run xs bs (h .1) (s .1))
+low-run (block z remainder ∷ xs) bs h s = absurd h
+low-run (block z free ∷ []) bs h s = absurd h
+low-run (block z free ∷ block y held ∷ xs) bs h s =
+    ((s .0 .0, if<-no z 72 _ _ (h .0), s .0 .1), refl, ((s .1 .0 .0, if<-no y 72 _ _ (h .1), s .1 .0 .1), low-run xs bs (h .2) (s .1 .1)))
+low-run (block z free ∷ block y free ∷ xs) bs h s = absurd h
+low-run (block z free ∷ block y remainder ∷ xs) bs h s = absurd h
+
+pub high-run : (xs : List Block) (bs : List ℕ) → High xs → Sized xs → Run bs 1 1 xs
+high-run [] bs h s = refl
+high-run (block z held ∷ xs) bs h s = ((s .0 .0, if<-yes z 72 _ _ (omega arith), s .0 .1), high-run xs bs (h .1) (s .1))
+high-run (block z free ∷ xs) bs h s = ((s .0 .0, if<-yes z 72 _ _ (omega arith), s .0 .1), refl, high-run xs bs (h .1) (s .1))
+high-run (block z remainder ∷ xs) bs h s = absurd h
+
+pub run-after : (bs : List ℕ) (c P : ℕ) (xs : List Block) → Run bs c P xs → flagPast P xs ≡ 1
+run-after bs c P [] r = r
+run-after bs c P (block z held ∷ xs) r = run-after bs c 1 xs (r .1)
+run-after bs c P (block z free ∷ xs) r = ap (λ (u : ℕ). flagPast u xs) (r .0 .1) ∙ run-after bs c c xs (r .2)
+run-after bs c P (block z remainder ∷ xs) r = absurd r
+
+pub cleared-yes : (bs : List ℕ) (k st a : ℕ) → ((i : ℕ) → i < k → wordAt 4 bs (a + st * i) ≡ 0) → cleared bs k st a ≡ true
+unfolding cleared
+cleared-yes bs zero st a h = refl
+cleared-yes bs (suc k) st a h =
+    if=-yes (wordAt 4 bs a) 0 _ _ (ap (wordAt 4 bs) (omega arith) ∙ h 0 (omega arith))
+    ∙ cleared-yes bs k st (a + st) (λ i l. ap (wordAt 4 bs) (omega arith) ∙ h (suc i) (omega arith))
+
+height-one : (t z : ℕ) → t ≡ 1 → height t z ≡ 1
+unfolding height
+height-one t z e = omega arith
+
+module _ (bs : List ℕ) (s : State) (W : WellFormed s) (l : length bs ≡ end s) (h : Holds (sheet s) bs) where
+  abbrev n : ℕ
+  n = end s
+
+  abbrev r0 : ℕ
+  r0 = 168 + total (s .low)
+
+  sized-low : Sized (s .low)
+  sized-low = sized-parts (s .low) (block (s .rest) remainder ∷ s .high) (W .sized) .0
+
+  sized-past : Sized (block (s .rest) remainder ∷ s .high)
+  sized-past = sized-parts (s .low) (block (s .rest) remainder ∷ s .high) (W .sized) .1
+
+  runL : Run bs 0 1 (s .low)
+  runL = low-run (s .low) bs (W .low-ok) sized-low
+
+  runH : Run bs 1 1 (s .high)
+  runH = high-run (s .high) bs (W .high-ok) (sized-past .1)
+
+  ends : r0 + s .rest + total (s .high) ≡ n
+  ends = omega (arith, total-append (s .low) (block (s .rest) remainder ∷ s .high))
+
+  foots : (q z : ℕ) (k : Kind) (P : ℕ) → In (blocks s) 168 1 q (block z k) P → Foot bs q z k P
+  foots q z held P i = tt
+  foots q z remainder P i = tt
+  foots q z free P i = λ m.
+      let hi = in-high (blocks s) 168 1 q (block z free) P i in
+      let al = in-aligned (blocks s) 168 1 q (block z free) P (W .sized) refl i in
+      let sol = in-sized (blocks s) 168 1 q (block z free) P (W .sized) i in
+      let fl = in-flag (blocks s) 168 1 q (block z free) P (omega arith) i in
+      reads bs s W l h (q + (z - 4)) (headWord z free P) (omega arith) (omega arith) (omega (arith, W .fits)) (at-foot s q z P i m)
+
+  facts : Facts bs (blocks s) 168 1
+  facts q z k P i = (head-reads bs s W l h q z k P i, foots q z k P i)
+
+  factsL : Facts bs (s .low) 168 1
+  factsL q z k P i = facts q z k P (in-left (s .low) (block (s .rest) remainder ∷ s .high) 168 1 q (block z k) P i)
+
+  factsH : Facts bs (s .high) (r0 + s .rest) 1
+  factsH q z k P i = facts q z k P (in-mid (s .low) (block (s .rest) remainder ∷ s .high) 168 1 q (block z k) P (inr i))
+
+  rest-head : wordAt 4 bs r0 ≡ 4 * s .rest + 2
+  rest-head =
+      head-reads bs s W l h r0 (s .rest) remainder (flagPast 1 (s .low))
+      (in-mid (s .low) (block (s .rest) remainder ∷ s .high) 168 1 r0 (block (s .rest) remainder) (flagPast 1 (s .low)) (inl (refl, refl, refl)))
+      ∙ omega (arith, run-after bs 0 1 (s .low) runL)
+
+  is-R : wordAt 4 bs 16 ≡ r0
+  is-R = low-reads bs s W l h
+
+  is-E : wordAt 4 bs 24 ≡ r0 + s .rest
+  is-E = rest-reads bs s W l h
+
+  -- ---- the marks and the sum
+  marks : List ℕ
+  marks = push (s .high) (r0 + s .rest) (push (s .low) 168 [])
+
+  is-scanned : scanned listMarks bs ≡ seen (length marks) marks (freeSum (s .low) + freeSum (s .high))
+  unfolding scanned marks
+  is-scanned =
+      ap (λ (m : Scanned (List ℕ)). if-seen m stray (λ n ms sum. scan listMarks bs (suc (length bs)) 1 (length bs) (wordAt 4 bs 24) 3 n ms sum))
+      (scan-yes bs (s .low) (suc (wordAt 4 bs 16)) 0 (wordAt 4 bs 16) 168 1 0 [] 0 (omega arith) (omega arith) refl (omega (arith, is-R))
+      (sym is-R) runL factsL)
+      ∙ ap (λ (e : ℕ). scan listMarks bs (suc (length bs)) 1 (length bs) e 3 (length (push (s .low) 168 [])) (push (s .low) 168 [])
+      (0 + freeSum (s .low))) is-E
+      ∙ scan-yes bs (s .high) (suc (length bs)) 1 (length bs) (r0 + s .rest) 1 (length (push (s .low) 168 [])) (push (s .low) 168 [])
+      (0 + freeSum (s .low)) (omega arith) (omega arith) refl (omega (arith, ends)) (ends ∙ sym l) runH factsH
+      ∙ ap (seen (length (push (s .high) (r0 + s .rest) (push (s .low) 168 []))) (push (s .high) (r0 + s .rest) (push (s .low) 168 []))) (omega arith)
+
+  free-word : wordAt 4 bs 0 ≡ freeSum (s .low) + freeSum (s .high) + s .rest - 4
+  unfolding headerWord if=
+  free-word =
+      header-reads bs s W l h 0 (omega arith) (omega (arith, W .fits, freeSum-le (blocks s)))
+      ∙ omega (arith, freeSum-append (s .low) (block (s .rest) remainder ∷ s .high))
+
+  is-marked : (x : ℕ) → count x marks ≡ count x (s .bins (sizeAt bs x))
+  unfolding marks freeAt
+  is-marked x =
+      count-push bs (s .high) (r0 + s .rest) 1 (push (s .low) 168 []) x (omega arith) factsH
+      ∙ omega (
+        arith,
+        count-push bs (s .low) 168 1 [] x (omega arith) factsL,
+        count-nil x,
+        W .listed (sizeAt bs x) x,
+        freeAt-append (s .low)
+            (block (s .rest) remainder ∷ s .high) 168 (sizeAt bs x) x,
+      )
+
+  -- ---- the bins
+  sizes : (z x : ℕ) → 1 ≤ count x (s .bins z) → (sizeAt bs x ≡ z) × (8 ≤ z) × (z % 8 ≡ 0) × (z ≤ n)
+  sizes z x o =
+      let st = start-of bs s W l h z x o in
+      let f = loose s W .found z x o in
+      let fl = in-flag (blocks s) 168 1 x (block z free) (f .0) (omega arith) (f .1) in
+      let hd = head-reads bs s W l h x z free (f .0) (f .1) in
+      (omega arith, st .3, st .4, omega (arith, st .5))
+
+  lkS : (z : ℕ) → z ≤ 64 → LinkedS bs z (s .bins z)
+  lkS z z64 =
+      linked-from (small-tests bs z) (nextSmall bs) (s .bins z) 0 (loose s W .once z) (no-zero bs s W l h z)
+      (λ q v e. (sizes z q (prev-in 0 (s .bins z) q v e) .0, tt))
+      (λ q v e. let r = next-reads bs s W l h z q (next-in (s .bins z) q v e) in
+      let e' : some v ≡ some (r .0) = sym e ∙ r .1 in let k : r .0 ≡ v = cc in r .4 (omega arith) ∙ k)
+
+  lkL : (z : ℕ) → 64 < z → LinkedL bs z (s .bins z)
+  lkL z z64 =
+      linked-from (large-tests bs z) (nextLarge bs) (s .bins z) 0 (loose s W .once z) (no-zero bs s W l h z)
+      (λ q v e. let o = prev-in 0 (s .bins z) q v e in
+      let i = sizes z q o in
+      let f = loose s W .found z q o in
+      let st = start-of bs s W l h z q o in
+      let r = next-reads bs s W l h z q o in (
+        i .0,
+        (
+          reads bs s W l h (q + 4) (linkWord q v) (omega arith) (omega arith) (linkWord-small q v)
+              (at-back s q z (f .0) (f .1) (omega arith) ∙ ap (link q) e),
+          (r .5 (omega arith) ∙ ap (linkWord q) (sym (on z q o (r .0) (r .2) (r .3) (r .5 (omega arith)))), tt),
+        ),
+      ))
+      (λ q v e. let o = next-in (s .bins z) q v e in
+      let i = sizes z q o in
+      let r = next-reads bs s W l h z q o in
+      let e' : some v ≡ some (r .0) = sym e ∙ r .1 in let k : r .0 ≡ v = cc in
+      on z q o (r .0) (r .2) (r .3) (r .5 (omega arith)) ∙ k)
+    where
+      on : (z q : ℕ) → 1 ≤ count q (s .bins z) → (v : ℕ) → v ≤ 65536 → v ≢ q → wordAt 4 bs (q + 8) ≡ linkWord q v → nextLarge bs q ≡ v
+      on z q o v a b e = ap (followed q) e ∙ followed-linkWord q v (omega (arith, start-of bs s W l h z q o)) a b
+
+  -- ---- header and false block
+  header-zero : (i : ℕ) → i < 12 → wordAt 4 bs (4 + 8 * i) ≡ 0
+  unfolding sheet
+  header-zero i b =
+      reads bs s W l h (4 + 8 * i) 0 (omega arith) (omega (arith, end-big bs s W l h)) (omega arith)
+      (if<-yes (4 + 8 * i) 96 _ _ (omega arith) ∙ if=-no ((4 + 8 * i) % 8) 0 _ _ (omega arith))
+
+  at-false : (o : ℕ) → o < 72 → sheet s (96 + o) ≡ index (s .top) n (s .bins) (some 0) (s .top) 96 64 o
+  unfolding sheet
+  at-false o b =
+      if<-no (96 + o) 96 _ _ (omega arith) ∙ if<-yes (96 + o) 168 _ _ (omega arith)
+      ∙ ap (index (s .top) n (s .bins) (some 0) (s .top) 96 64) (omega arith)
+
+  start-rest : (x : ℕ) → count x marks ≡ if< 0 (sizeAt bs x) (count x (s .bins (sizeAt bs x))) 0
+  start-rest x =
+      by< 0 (sizeAt bs x) (λ k. is-marked x ∙ sym (if<-yes 0 (sizeAt bs x) _ _ k))
+      (λ k. is-marked x ∙ by= (count x (s .bins (sizeAt bs x))) 0 (λ e. e) (λ o. absurd (omega (arith, sizes (sizeAt bs x) x (omega arith) .1)))
+      ∙ sym (if<-no 0 (sizeAt bs x) _ _ k))
+
+  word1 : wordAt 4 bs 8 ≡ 96
+  unfolding headerWord if=
+  word1 = header-reads bs s W l h 1 (omega arith) (omega arith)
+
+  -- ---- layout 1
+  module _ (t1 : s .top ≡ 1) where
+    abbrev next-bin : ℕ → ℕ
+    next-bin y = seek (λ (u : ℕ). first (s .bins u)) n (suc y)
+
+    above-is : (y : ℕ) → above (s .top) (end s) (s .bins) 1 y ≡ next-bin y
+    unfolding above reach
+    above-is y = seek-cong _ _ n (suc y) (λ u k. if<-no (height (s .top) u) 1 _ _ (omega (arith, height-one (s .top) u t1)))
+
+    -- what is found past y is a start past y, or 0
+    bound : (y : ℕ) → (next-bin y ≤ 65536) × ((q : ℕ) → q ≢ 0 → (q < 168) ⊎ (sizeAt bs q ≤ y) → next-bin y ≢ q)
+    bound y =
+        by= (next-bin y) 0 (λ e. (omega arith, λ q nz c k. nz (sym k ∙ e)))
+        (λ ne. let r = seek-spec (λ (u : ℕ). first (s .bins u)) n (suc y) ne in
+        let o = first-count (s .bins (r .0)) (next-bin y) (r .2) ne in
+        let st = start-of bs s W l h (r .0) (next-bin y) o in
+        (omega arith, λ q nz c k. apart q (r .0) (r .1) (subst (λ (v : ℕ). 1 ≤ count v (s .bins (r .0))) k o) c))
+      where
+        apart : (q z : ℕ) → y < z → 1 ≤ count q (s .bins z) → (q < 168) ⊎ (sizeAt bs q ≤ y) → ⊥
+        apart q z yz o (inl c) = omega (arith, start-of bs s W l h z q o .0)
+        apart q z yz o (inr c) = omega (arith, sizes z q o .0)
+
+    tops : (z : ℕ) → 64 < z → first (s .bins z) ≢ 0 → (wordAt 4 bs (first (s .bins z) + 12) ≡ 1)
+        × (wordAt 4 bs (first (s .bins z) + 64) ≡ linkWord (first (s .bins z)) (next-bin z)) × (nextBin bs (first (s .bins z)) ≡ next-bin z)
+    tops z z64 ne =
+        let q : ℕ = first (s .bins z) in
+        let o = first-count (s .bins z) q refl ne in
+        let i = sizes z q o in
+        let f = loose s W .found z q o in
+        let st = start-of bs s W l h z q o in
+        let z72 : 72 ≤ z = omega arith in
+        let a = height-one (s .top) z t1 in
+        let w : wordAt 4 bs (q + 64) ≡ linkWord q (next-bin z) =
+        reads bs s W l h (q + 64) (linkWord q (next-bin z)) (omega arith) (omega arith) (linkWord-small q (next-bin z))
+        (at-word s q z (f .0) (f .1) z72 refl 1 (omega arith) (omega arith) (omega (arith, t1)) ∙ ap (λ (v : ℕ). some (linkWord q v)) (above-is z)) in (
+          reads bs s W l h (q + 12) 1 (omega arith) (omega arith) (omega arith) (at-level s q z (f .0) (f .1) z72 refl ∙ ap some a),
+          w,
+          ap (followed q) w ∙ followed-linkWord q (next-bin z) (omega arith) (bound z .0) (bound z .1 q ne (inr (omega arith))),
+        )
+
+    false-zero : (o : ℕ) → o < 72 → o % 4 ≡ 0 → o ≢ 12 → o ≢ 64 → wordAt 4 bs (96 + o) ≡ 0
+    unfolding index
+    false-zero o b al n12 n64 =
+        reads bs s W l h (96 + o) 0 (omega arith) (omega (arith, end-big bs s W l h)) (omega arith)
+        (at-false o b ∙ if=-no o 12 _ _ n12
+        ∙ by< o (68 - 4 * s .top) (λ c. if<-yes o _ _ _ c) (λ c. if<-no o _ _ _ c ∙ if<-yes 64 o _ _ (omega arith)))
+
+    chain-word : wordAt 4 bs 160 ≡ linkWord 96 (next-bin 64)
+    chain-word =
+        reads bs s W l h 160 (linkWord 96 (next-bin 64)) refl (omega (arith, end-big bs s W l h)) (linkWord-small 96 (next-bin 64))
+        (false-word s 1 (omega arith) (omega arith) (omega arith) ∙ ap (λ (v : ℕ). some (linkWord 96 v)) (above-is 64))
+
+    chain-on : nextBin bs 96 ≡ next-bin 64
+    chain-on = ap (followed 96) chain-word
+        ∙ followed-linkWord 96 (next-bin 64) (omega arith) (bound 64 .0) (bound 64 .1 96 (omega arith) (inl (omega arith)))
+
+    is-listed : lists listMarks bs (length marks) marks ≡ true
+    unfolding lists
+    is-listed =
+        let r = smalls-yes bs n (s .bins) sizes lkS lkL (λ z a b c. small-reads bs s W l h z a b c) 8 8 0
+        (length marks) marks refl refl refl refl start-rest in
+        ap (λ (m : Left (List ℕ)). if-left m false (λ k ms'. chain listMarks bs (suc k) k ms' 64 (nextBin bs 96))) (r .2)
+        ∙ ap (chain listMarks bs (suc (r .0)) (r .0) (r .1) 64) chain-on
+        ∙ chain-yes bs n (s .bins) sizes lkS lkL tops (suc (r .0)) (r .0) (r .1) 64 (omega arith) (r .3) (omega arith) (r .4)
+
+    pub accepts : inspect listMarks bs ≡ true
+    unfolding inspect
+    accepts =
+        let rest8 = sized-past .0 in
+        let e1 = is-R in let e2 = is-E in let e3 = ends in let f = W .fits in
+        guard-yes (size-tests bs) false _ (
+          allowed-yes (length bs) (record
+              { least = omega (arith, end-big bs s W l h); most = omega arith; eights = omega (arith, sized-eight (blocks s) (W .sized)) }),
+          tt,
+        )
+        ∙ guard-yes (rest-tests bs) false _ (
+          omega arith,
+          (
+            omega arith,
+            (
+              omega arith,
+              (
+                omega (arith, sized-eight (s .low) sized-low),
+                (omega (arith, sized-eight (s .low) sized-low), (ap (wordAt 4 bs) is-R ∙ rest-head ∙ omega arith, tt)),
+              ),
+            ),
+          ),
+        )
+        ∙ guard-yes (false-tests bs) false _ (
+          word1,
+          (
+            top-reads bs s W l h ∙ t1,
+            (
+              chain-word ∙ ap (linkWord 96) (sym chain-on),
+              (
+                false-zero 68 (omega arith) refl (omega arith) (omega arith),
+                (
+                  cleared-yes bs 12 8 4 header-zero,
+                  (
+                    cleared-yes bs 3 4 96 (λ i b. false-zero (4 * i) (omega arith) (omega arith) (omega arith) (omega arith)),
+                    (
+                      cleared-yes bs 12 4 112 (λ i b. ap (wordAt 4 bs) (omega arith)
+                          ∙ false-zero (16 + 4 * i) (omega arith) (omega arith) (omega arith) (omega arith)),
+                      (omega arith, tt),
+                    ),
+                  ),
+                ),
+              ),
+            ),
+          ),
+        )
+        ∙ ap (λ (m : Scanned (List ℕ)). if-seen m false
+        (λ n ms sum. guard (same (wordAt 4 bs 0) (sum + (wordAt 4 bs 24 - wordAt 4 bs 16) - 4) ∷ []) false (lists listMarks bs n ms))) is-scanned
+        ∙ guard-yes (same (wordAt 4 bs 0) (freeSum (s .low) + freeSum (s .high) + (wordAt 4 bs 24 - wordAt 4 bs 16) - 4) ∷ []) false _
+        (free-word ∙ omega arith, tt)
+        ∙ is-listed

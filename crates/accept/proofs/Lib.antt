@@ -1,0 +1,9 @@
+pub mod MarkLists
+pub mod Scanning
+pub mod Chains
+pub mod Passing
+pub mod Accept
+pub mod Build
+pub mod Simulation
+pub mod Exact
+mod Tried
