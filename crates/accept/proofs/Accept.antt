@@ -7,6 +7,7 @@ use mathlib.Core.Path.{_∙_, _≡_, ap, refl, subst, sym}
 use Prim.Native.Nat.{_%_, _*_, _+_, _-_, _<_, _≤_, suc, zero, ℕ}
 use native.Mathlib.Omega.{arith}
 use lib.ListN.{length}
+use Rattle.heads.proofs.HeadLaws.{free-head}
 use Rattle.heads.specs.Links.{followed, linkWord}
 use Rattle.accept.proofs.Chains.{LinkedL, LinkedS}
 use Rattle.guards.proofs.Guards.{guard-yes}
@@ -302,7 +303,7 @@ module _ (bs : List ℕ) (s : State) (W : WellFormed s) (l : length bs ≡ end s
               omega arith,
               (
                 omega (arith, sized-eight (s .low) sized-low),
-                (omega (arith, sized-eight (s .low) sized-low), (ap (wordAt 4 bs) is-R ∙ rest-head ∙ omega arith, tt)),
+                (omega (arith, sized-eight (s .low) sized-low), (ap (wordAt 4 bs) is-R ∙ rest-head ∙ omega arith ∙ sym (free-head (wordAt 4 bs 24 - wordAt 4 bs 16) (omega arith)), tt)),
               ),
             ),
           ),

@@ -7,6 +7,7 @@ use mathlib.Core.Path.{_∙_, _≡_, ap, refl, subst, sym}
 use Prim.Native.Nat.{_%_, _*_, _+_, _-_, _/_, _<_, _≤_, suc, zero, ℕ}
 use native.Mathlib.Omega.{arith}
 use lib.ListN.{length}
+use Rattle.heads.proofs.HeadLaws.{free-head}
 use Rattle.heads.specs.Links.{linkWord}
 use Rattle.accept.proofs.Accept.{run-after}
 use Rattle.accept.proofs.Chains.{LinkedL, LinkedS, false-true, large-sz, small-sz}
@@ -106,7 +107,7 @@ module _ (bs : List ℕ) (by : Bytes bs) (al : Allowed (length bs)) (rt : All (r
           let a : z ≡ rest = ap size (i .1) in
           let b : k ≡ remainder = ap kind (i .1) in
           let c : P ≡ 1 = i .2 ∙ run-after bs 0 1 xs rL in
-          rw (i .0, a, b, c) (ap (wordAt 4 bs) tL ∙ rt .1 .1 .1 .1 .1 .0 ∙ omega arith, tt)
+          rw (i .0, a, b, c) (ap (wordAt 4 bs) tL ∙ rt .1 .1 .1 .1 .1 .0 ∙ free-head rest (omega (arith, al .most, rt .1 .1 .0)) ∙ omega arith, tt)
       go (inr (inr i)) = fH q z k P (subst (λ (p : ℕ). In ys p 1 q (block z k) P) (omega (arith, rt .1 .0)) i)
 
   sized : Sized bl

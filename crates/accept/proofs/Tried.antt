@@ -4,6 +4,7 @@ use mathlib.Core.List.{List, [], _∷_}
 use mathlib.Core.Path.{_≡_, refl}
 use Prim.Native.Nat.{ℕ}
 use lib.ListN.{replicate}
+use Rattle.heads.specs.Heads.{freeHead, wordOf}
 use Rattle.heads.specs.Links.{followed, linkWord}
 use Rattle.header.specs.Header.{cleared}
 use Rattle.accept.specs.Inspect.{inspect, scanned}
@@ -43,7 +44,7 @@ listed-pool = write (sheet listed) (replicate 632 0)
 
 fresh-accepted : inspect bitMarks fresh-pool ≡ true
 unfolding fresh fresh-pool write byte mapAt digitsAt putDigits wordAt sheet headerWord if= if< walk index largeWord smallWord linkWord height zeros reach above seek
-    first prevIn nextIn followed cleared smalls chain lists scanned inspect allowed follow scan markAt bitAt putBitAt putBit
+    first prevIn nextIn followed cleared smalls chain lists scanned inspect allowed follow scan markAt bitAt putBitAt putBit freeHead wordOf
 fresh-accepted = refl
 
 -- in turn: as it is; another level word; no link back; another size; a chain that goes on; two members that point at each other;
@@ -55,5 +56,5 @@ listed-tried :
     ≡ true ∷ false ∷ false ∷ false ∷ false ∷ false ∷ false ∷ false ∷ false ∷ []
 unfolding listed listed-bins listed-pool write byte mapAt digitsAt putDigits wordAt putAt sheet headerWord if= if< walk index largeWord smallWord linkWord height zeros
     reach above seek first prevIn nextIn followed cleared smalls chain lists scanned inspect allowed follow scan markAt bitAt putBitAt
-    putBit
+    putBit freeHead wordOf
 listed-tried = refl

@@ -2,7 +2,7 @@
 use mathlib.Core.Path.{_≡_, refl, sym, ap, _∙_, subst}
 use mathlib.Core.Bool.{Bool, true, false, not}
 use mathlib.Core.List.{List}
-use Prim.Native.Nat.{ℕ, zero, suc, _+_, _-_, _*_, _%_, _≤_, _<_}
+use Prim.Native.Nat.{ℕ, zero, suc, _+_, _-_, _%_, _≤_, _<_}
 use native.Mathlib.Omega.{arith}
 use lib.ListN.{length}
 use lib.Dec.{eqb}
@@ -10,8 +10,10 @@ use borrow.Author.Tests.{eq-eqb, ne-eqb, eqb-true, not-false}
 use Rattle.words.specs.Choice.{if=-yes, if=-no, by=}
 use Rattle.words.specs.Sums.{plus, minus}
 use Rattle.words.specs.Words.{wordAt}
+use Rattle.heads.specs.Heads.{freeHead}
 use Rattle.heads.specs.Links.{linkWord, followed}
 use Rattle.guards.specs.Tests.{pass}
+use Rattle.paper.specs.Layout.{blocks-at}
 use Rattle.header.specs.Header.{cleared, rest-between, zero-tests, false-tests}
 use Rattle.guards.proofs.Guards.{guard-inv, guard-yes, no-both, pass-is}
 
@@ -72,11 +74,12 @@ module _ {s : List ℕ} {k st from n at : ℕ} (g : Clearing s k st from n at) w
 
 -- ---- the last test of each list: all before it have passed
 
-pub rest-is : (s : List ℕ) (a b : ℕ) {w : ℕ} → 168 ≤ a → 8 ≤ b → a ≤ b - 8 → b ≤ length s → a % 8 ≡ 0 → b % 8 ≡ 0 → w ≡ wordAt 4 s a
-    → eqb w (4 * (b - a) + 2) ≡ pass (rest-between s a b)
-rest-is s a b {w} h1 h2 h3 h4 h5 h6 ew =
-    pass-is (rest-between s a b) (eqb w (4 * (b - a) + 2))
-    (λ h. (omega arith, (omega arith, (omega arith, (h5, (h6, (sym ew ∙ eqb-true _ _ h, tt))))))) (λ t. eq-eqb _ _ (ew ∙ t .1 .1 .1 .1 .1 .0))
+pub rest-is : (s : List ℕ) (a b : ℕ) {w h : ℕ} → blocks-at ≤ a → 8 ≤ b → a ≤ b - 8 → b ≤ length s → a % 8 ≡ 0 → b % 8 ≡ 0 → w ≡ wordAt 4 s a
+    → h ≡ freeHead (b - a) → eqb w h ≡ pass (rest-between s a b)
+rest-is s a b {w} {h} after least room inside a8 b8 ew eh =
+    pass-is (rest-between s a b) (eqb w h)
+    (λ k. (omega arith, (omega arith, (omega arith, (a8, (b8, (sym ew ∙ eqb-true _ _ k ∙ eh, tt)))))))
+    (λ t. eq-eqb _ _ (ew ∙ t .1 .1 .1 .1 .1 .0 ∙ sym eh))
 
 pub zeros-is : (s : List ℕ) → true ≡ cleared s 12 8 4 → Clearing s 3 4 96 0 108 → true ≡ cleared s 12 4 112 → true ≡ pass (zero-tests s)
 zeros-is s a b c = pass-is (zero-tests s) true (λ h. (sym a, (sym (is-cleared b refl), (sym c, tt)))) (λ t. refl)

@@ -2,10 +2,11 @@
 -- head of the remainder: the words that stand at fixed places, and the remainder's, as lists of tests.
 use mathlib.Core.Bool.{Bool, true, false}
 use mathlib.Core.List.{List, [], _∷_}
-use Prim.Native.Nat.{ℕ, zero, suc, _+_, _-_, _*_, _%_}
+use Prim.Native.Nat.{ℕ, zero, suc, _+_, _-_, _%_}
 use lib.ListN.{length}
 use Rattle.words.specs.Choice.{if=}
 use Rattle.words.specs.Words.{wordAt}
+use Rattle.heads.specs.Heads.{freeHead}
 use Rattle.heads.specs.Links.{linkWord, followed}
 use Rattle.paper.specs.Layout.{false-word-at, start-at, end-at, false-block, blocks-at, level-at, chain-at}
 use Rattle.guards.specs.Tests.{Test, same, less, holds}
@@ -26,7 +27,7 @@ module _ (bs : List ℕ) where
   abbrev pub rest-between : ℕ → ℕ → List Test
   rest-between a b =
       less (blocks-at - 1) a ∷ less (a + 7) b ∷ less b (suc (length bs)) ∷ same (a % 8) 0 ∷ same (b % 8) 0
-      ∷ same (wordAt 4 bs a) (4 * (b - a) + 2) ∷ []
+      ∷ same (wordAt 4 bs a) (freeHead (b - a)) ∷ []
 
   abbrev pub rest-tests : List Test
   rest-tests = rest-between R E

@@ -32,7 +32,7 @@ pub fn remainder_ok(pool: &[u8], a: u32, b: u32) -> bool
     if b % 8 != 0 {
         return false;
     }
-    words::get32(pool, a as usize) as u64 == 4 * ((b - a) as u64) + 2
+    words::get32(pool, a as usize) == heads::free_head(b - a)
 }
 
 // The header's second word, the high half of all twelve, and the false block: zero, but for its level word and its chain word.

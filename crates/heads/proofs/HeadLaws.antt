@@ -1,7 +1,7 @@
 -- What shifts and masks make of a head: the machine's forms are `headOf` and `wordOf`, and putting together undoes taking apart.
 use mathlib.Core.Path.{_≡_, refl, ap, ap₂, _∙_}
 use mathlib.Core.Bool.{Bool, true, false}
-use Prim.Native.Nat.{ℕ, _+_, _*_, _/_, _%_, _^_, _<_}
+use Prim.Native.Nat.{ℕ, _+_, _*_, _/_, _%_, _^_, _<_, _≤_}
 use native.Mathlib.Nat.{mod-eq-of-lt, mul-comm}
 use native.Mathlib.Omega.{arith}
 use lib.Arith.{mod-mul}
@@ -9,7 +9,7 @@ use lib.Dec.{eqb}
 use lib.Bits.{bitAnd, bitOr, and-mask, or-shifted}
 use mir.Val.{boolByte}
 use Rattle.heads.specs.declared.head.Head.{Head}
-use Rattle.heads.specs.Heads.{headOf, wordOf}
+use Rattle.heads.specs.Heads.{flagsOf, freeHead, headOf, wordOf}
 
 flag-lt : (b : Bool) → boolByte b < 2
 flag-lt true = omega arith
@@ -59,3 +59,12 @@ head-word h l =
     flag-eqb : (b : Bool) → eqb (boolByte b) 1 ≡ b
     flag-eqb true = refl
     flag-eqb false = refl
+
+-- both flags by one mask
+pub flags : (w : ℕ) → bitAnd w 3 ≡ flagsOf w
+flags w = and-mask w 2
+
+-- the head of a free block, for every size of a pool
+pub free-head : (z : ℕ) → z ≤ 65536 → freeHead z ≡ 4 * z + 2
+unfolding freeHead wordOf
+free-head z l = omega arith

@@ -8,15 +8,32 @@ use mir.Val.{boolByte}
 use Rattle.words.specs.Words.{wordAt}
 use Rattle.heads.specs.declared.head.Head.{Head}
 
+-- the size alone, and both flags in one number, 2 × P + a
+abbrev pub sizeOf : ℕ → ℕ
+sizeOf w = w / 4
+
+abbrev pub flagsOf : ℕ → ℕ
+flagsOf w = w % 4
+
+-- the flags of a held block above no free large one, and of a free block
+abbrev pub held-flags : ℕ
+held-flags = 3
+
+abbrev pub free-flags : ℕ
+free-flags = 2
+
 unfoldable pub headOf : ℕ → Head
-headOf w = record { size = w / 4; p = eqb (w / 2 % 2) 1; held = eqb (w % 2) 1 }
+headOf w = record { size = sizeOf w; p = eqb (w / 2 % 2) 1; held = eqb (w % 2) 1 }
 
 unfoldable pub wordOf : Head → ℕ
 wordOf h = 4 * h .size % 4294967296 + 2 * boolByte (h .p) + boolByte (h .held)
 
--- the size in the head at q
+-- those of the head at q
 abbrev pub sizeAt : List ℕ → ℕ → ℕ
-sizeAt bs q = wordAt 4 bs q / 4
+sizeAt bs q = sizeOf (wordAt 4 bs q)
+
+abbrev pub flagsAt : List ℕ → ℕ → ℕ
+flagsAt bs q = flagsOf (wordAt 4 bs q)
 
 -- the head of a held block and of a free one, above no free large block
 unfoldable pub heldHead : ℕ → ℕ

@@ -4,7 +4,7 @@
 //     bit 1          P: 1 unless the block next below is a free large block
 //     bit 0          a: 1 for held
 ghost use mathlib.Core.Path.{_≡_};
-ghost use Rattle.heads.specs.Heads.{headOf, wordOf, heldHead, freeHead, withP, blockSize};
+ghost use Rattle.heads.specs.Heads.{headOf, sizeOf, flagsOf, wordOf, heldHead, freeHead, withP, blockSize};
 
 pub struct Head {
     pub size: u32,
@@ -21,6 +21,27 @@ pub fn apart(w: u32) -> Head
         held: w & 1 == 1,
     }
 }
+
+// The size alone.
+pub fn size_of(w: u32) -> u32
+    ensures { λ r. ⌜ r ≡ sizeOf w ⌝ }
+{
+    w >> 2
+}
+
+// Both flags in one number, 2 × P + a, for one test of both.
+pub fn flags_of(w: u32) -> u32
+    ensures { λ r. ⌜ r ≡ flagsOf w ⌝ }
+{
+    w & 3
+}
+
+// The flags of a held block, of a held block above a free large one, and of a free block.
+pub const HELD: u32 = 3;
+
+pub const HELD_ABOVE_FREE: u32 = 1;
+
+pub const FREE: u32 = 2;
 
 pub fn together(h: Head) -> u32
     ensures { λ r. ⌜ r ≡ wordOf h ⌝ }

@@ -7,6 +7,7 @@ use native.Mathlib.Omega.{arith}
 use lib.Dec.{eqb}
 use lib.ListN.{length}
 use borrow.Author.Tests.{eq-eqb, ne-eqb, not-false, not-true}
+use Rattle.heads.specs.Heads.{sizeAt}
 use Rattle.heads.specs.Links.{followed}
 use Rattle.guards.proofs.Guards.{guard-fail, guard-inv, guard-pass, passed}
 use Rattle.lists.proofs.Following.{lost-left}
@@ -40,7 +41,7 @@ unfolding chain
 chain-unfit s m zero n y f e h = refl
 chain-unfit s m (suc c) n y f e h = if=-no f 0 _ _ e ∙ guard-fail (first-tests s y f) false _ h
 
-chain-next : (s m : List ℕ) (c n y f z : ℕ) → (f ≡ 0 → ⊥) → pass (first-tests s y f) ≡ true → z ≡ wordAt 4 s f / 4 → (x : Left (List ℕ))
+chain-next : (s m : List ℕ) (c n y f z : ℕ) → (f ≡ 0 → ⊥) → pass (first-tests s y f) ≡ true → z ≡ sizeAt s f → (x : Left (List ℕ))
     → x ≡ follow bitMarks (large-tests s z) (nextLarge s) n m 0 f
     → chain bitMarks s (suc c) n m y f ≡ if-left x false (λ k' ms'. chain bitMarks s c k' ms' z (nextBin s f))
 unfolding chain
@@ -85,25 +86,25 @@ module _ {s m₀ : List ℕ} {k f0 : ℕ} {m : List ℕ} {n y f : ℕ} (g : Chai
     chain-bad i = sym (g .all ∙ chain-unfit s m (g .fuel) n y f ne (sym eb ∙ not-true _ i))
 
     -- its head, and its list, which was followed
-    module _ (i : not b ≡ false) {w : ℕ} (ew : w ≡ wordAt 4 s f) (r : Answer) (m' : List ℕ) (ex : to-left r m' ≡ follow bitMarks (large-tests s (w / 4)) (nextLarge s) n m 0 f) where
+    module _ (i : not b ≡ false) {z : ℕ} (ez : z ≡ sizeAt s f) (r : Answer) (m' : List ℕ) (ex : to-left r m' ≡ follow bitMarks (large-tests s z) (nextLarge s) n m 0 f) where
       abbrev on-bins : Left (List ℕ) → Bool
-      on-bins x = if-left x false (λ k' ms'. chain bitMarks s (g .fuel - 1) k' ms' (w / 4) (nextBin s f))
+      on-bins x = if-left x false (λ k' ms'. chain bitMarks s (g .fuel - 1) k' ms' z (nextBin s f))
 
       chain-step : All-bins ≡ on-bins (to-left r m')
       chain-step =
           g .all ∙ ap (λ (x : ℕ). chain bitMarks s x n m y f) (omega (arith, g .enough))
-          ∙ chain-next s m (g .fuel - 1) n y f (w / 4) ne (passed eb i) (ap (λ (x : ℕ). x / 4) ew) (to-left r m') ex
+          ∙ chain-next s m (g .fuel - 1) n y f z ne (passed eb i) ez (to-left r m') ex
 
       pub chain-lost : not (r .ok) ≡ true → false ≡ All-bins
       chain-lost j = sym (chain-step ∙ ap (λ (c : Bool). on-bins (pick-left c (r .left) m')) (not-true (r .ok) j))
 
       pub bin-less : not (r .ok) ≡ false → r .left < n
       bin-less h =
-          follow-lt (large-tests s (w / 4)) (nextLarge s) n m 0 f (r .left) m' ne
+          follow-lt (large-tests s z) (nextLarge s) n m 0 f (r .left) m' ne
           (sym ex ∙ ap (λ (c : Bool). pick-left c (r .left) m') (not-false (r .ok) h))
 
       pub chain-on : {t u : ℕ} → not (r .ok) ≡ false → length m' ≡ length m → u ≡ wordAt 4 s (f + 64) → t ≡ followed f u → t < 4294967296
-          → Chained s m₀ k f0 m' (r .left) (w / 4) t
+          → Chained s m₀ k f0 m' (r .left) z t
       chain-on {t} j lm eu et ts =
           record {
             long = lm ∙ g .long;
@@ -111,7 +112,7 @@ module _ {s m₀ : List ℕ} {k f0 : ℕ} {m : List ℕ} {n y f : ℕ} (g : Chai
             fuel = g .fuel - 1;
             enough = omega (arith, g .enough, bin-less j);
             all = chain-step ∙ ap (λ (c : Bool). on-bins (pick-left c (r .left) m')) (not-false (r .ok) j)
-                ∙ ap (chain bitMarks s (g .fuel - 1) (r .left) m' (w / 4)) (sym (et ∙ ap (followed f) eu));
+                ∙ ap (chain bitMarks s (g .fuel - 1) (r .left) m' z) (sym (et ∙ ap (followed f) eu));
           }
 
 -- ---- all of them

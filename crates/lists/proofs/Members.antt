@@ -1,13 +1,15 @@
 -- The tests of a member, and of the first block of a bin, by the words that were read.
 use mathlib.Core.Bool.{Bool, false, not, true}
 use mathlib.Core.List.{List}
-use mathlib.Core.Path.{_∙_, _≡_, ap, sym}
-use Prim.Native.Nat.{_+_, _/_, _<_, ℕ}
+use mathlib.Core.Path.{_∙_, _≡_, sym}
+use Prim.Native.Nat.{_+_, _<_, ℕ}
+use native.Mathlib.Omega.{arith}
 use lib.Dec.{eqb, ltb}
 use borrow.Author.Tests.{eq-eqb, eqb-true, lt-ltb, ltb-true, not-false}
 use Rattle.guards.proofs.Guards.{off, pass-is, pass-no}
 use Rattle.guards.specs.Tests.{Test, pass}
 use Rattle.header.proofs.Laws.{link-true, true-link}
+use Rattle.heads.specs.Heads.{sizeAt}
 use Rattle.heads.specs.Links.{followed, linkWord}
 use Rattle.lists.specs.Lists.{asked, first-tests, large-tests, small-tests}
 use Rattle.marks.specs.MarkSets.{bitMarks, markAt}
@@ -24,23 +26,22 @@ is-marked m q e h = ltb-true 0 (markAt m q) (sym e ∙ not-false _ h)
 
 -- ---- the last test of each list: all before it have passed
 
-pub small-is : (s m : List ℕ) (z q : ℕ) {b : Bool} {w : ℕ} → b ≡ ltb 0 (markAt m q) → not b ≡ false → w ≡ wordAt 4 s q
-    → eqb (w / 4) z ≡ pass (asked bitMarks (small-tests s z) m 0 q)
-small-is s m z q {w = w} eb h ew =
-    pass-is (asked bitMarks (small-tests s z) m 0 q) (eqb (w / 4) z)
-    (λ k. (is-marked m q eb h, (sym (ap (λ (v : ℕ). v / 4) ew) ∙ eqb-true _ _ k, tt))) (λ t. eq-eqb _ _ (ap (λ (v : ℕ). v / 4) ew ∙ t .1 .0))
+pub small-is : (s m : List ℕ) (z q : ℕ) {b : Bool} {y : ℕ} → b ≡ ltb 0 (markAt m q) → not b ≡ false → y ≡ sizeAt s q
+    → eqb y z ≡ pass (asked bitMarks (small-tests s z) m 0 q)
+small-is s m z q {y = y} eb h ey =
+    pass-is (asked bitMarks (small-tests s z) m 0 q) (eqb y z) (λ k. (is-marked m q eb h, (sym ey ∙ eqb-true _ _ k, tt))) (λ t. eq-eqb _ _ (ey ∙ t .1 .0))
 
-pub large-is : (s m : List ℕ) (z p q : ℕ) {b r : Bool} {w v u d : ℕ} → b ≡ ltb 0 (markAt m q) → not b ≡ false → w ≡ wordAt 4 s q → w / 4 ≡ z
+pub large-is : (s m : List ℕ) (z p q : ℕ) {b r : Bool} {y v u d : ℕ} → b ≡ ltb 0 (markAt m q) → not b ≡ false → y ≡ sizeAt s q → y ≡ z
     → v ≡ wordAt 4 s (q + previous-at) → d ≡ linkWord q p → v ≡ d → u ≡ wordAt 4 s (q + next-at) → r ≡ eqb u (linkWord q (followed q u))
     → r ≡ pass (asked bitMarks (large-tests s z) m p q)
-large-is s m z p q {r = r} eb h ew size ev ed back eu er =
+large-is s m z p q {r = r} eb h ey size ev ed back eu er =
     pass-is (asked bitMarks (large-tests s z) m p q) r
-    (λ k. (is-marked m q eb h, (sym (ap (λ (x : ℕ). x / 4) ew) ∙ size, (sym ev ∙ back ∙ ed, (link-true q er eu k, tt)))))
+    (λ k. (is-marked m q eb h, (sym ey ∙ size, (sym ev ∙ back ∙ ed, (link-true q er eu k, tt)))))
     (λ t. true-link q er eu (t .1 .1 .1 .0))
 
-pub first-is : (s : List ℕ) (y f : ℕ) {r : Bool} {w v u : ℕ} → w ≡ wordAt 4 s f → y < w / 4 → v ≡ wordAt 4 s (f + level-at) → v ≡ 1
+pub first-is : (s : List ℕ) (y f : ℕ) {r : Bool} {z v u : ℕ} → z ≡ sizeAt s f → y < z → v ≡ wordAt 4 s (f + level-at) → v ≡ 1
     → u ≡ wordAt 4 s (f + chain-at) → r ≡ eqb u (linkWord f (followed f u)) → r ≡ pass (first-tests s y f)
-first-is s y f {r} ew size ev level eu er =
+first-is s y f {r} ez size ev level eu er =
     pass-is (first-tests s y f) r
-    (λ k. (rw (← ew) size, (sym ev ∙ level, (link-true f er eu k, tt))))
+    (λ k. (omega arith, (sym ev ∙ level, (link-true f er eu k, tt))))
     (λ t. true-link f er eu (t .1 .1 .0))

@@ -11,6 +11,7 @@ use paper::SMALL_NEXT;
 ghost use mathlib.Core.Path.{_≡_};
 ghost use Prim.Native.Nat.{suc};
 ghost use Rattle.guards.specs.Tests.{pass};
+ghost use Rattle.heads.specs.Heads.{sizeAt};
 ghost use Rattle.marks.specs.MarkSets.{bitMarks};
 ghost use Rattle.lists.specs.Lists.{asked, small-tests, large-tests, first-tests, followSmall, followLarge, smalls, chain, lists};
 ghost use Rattle.lists.specs.Contract.{to-left};
@@ -65,7 +66,7 @@ fn large_bins(pool: &[u8], m: &mut [u64], k: usize, f0: u32) -> bool
         if !first_ok(pool, y, f) {
             return false;
         }
-        let z = words::get32(pool, f as usize) / 4;
+        let z = size_at(pool, f);
         let r = follow_large(pool, m, left, z, f);
         if !r.ok {
             return false;
@@ -126,7 +127,7 @@ fn small_ok(pool: &[u8], m: &[u64], z: u32, q: u32) -> bool
     if !marks::marked(m, q) {
         return false;
     }
-    words::get32(pool, q as usize) / 4 == z
+    size_at(pool, q) == z
 }
 
 // The member q after p of the large bin of size z: its mark, its head, its link back and its link on, each read when the one before has
@@ -137,7 +138,7 @@ fn large_ok(pool: &[u8], m: &[u64], z: u32, p: u32, q: u32) -> bool
     if !marks::marked(m, q) {
         return false;
     }
-    if words::get32(pool, q as usize) / 4 != z {
+    if size_at(pool, q) != z {
         return false;
     }
     if words::field(pool, q, PREVIOUS) != heads::link_word(q, p) {
@@ -150,11 +151,18 @@ fn large_ok(pool: &[u8], m: &[u64], z: u32, p: u32, q: u32) -> bool
 fn first_ok(pool: &[u8], y: u32, f: u32) -> bool
     ensures { λ r. ⌜ r ≡ pass (first-tests (now (pool .entry)) y f) ⌝ }
 {
-    if words::get32(pool, f as usize) / 4 <= y {
+    if size_at(pool, f) <= y {
         return false;
     }
     if words::field(pool, f, LEVEL) != 1 {
         return false;
     }
     link_ok(f, words::field(pool, f, CHAIN))
+}
+
+// The size of the block at q, by its head.
+fn size_at(pool: &[u8], q: u32) -> u32
+    ensures { λ r. ⌜ r ≡ sizeAt (now (pool .entry)) q ⌝ }
+{
+    heads::size_of(words::get32(pool, q as usize))
 }

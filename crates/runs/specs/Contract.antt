@@ -3,6 +3,7 @@ use mathlib.Core.Path.{_≡_}
 use mathlib.Core.Bool.{Bool, true, false}
 use mathlib.Core.List.{List}
 use Prim.Native.Nat.{ℕ, suc, _+_, _≤_}
+use Rattle.heads.specs.Heads.{held-flags}
 use Rattle.marks.specs.MarkSets.{bitMarks}
 use Rattle.runs.specs.Runs.{Scanned, stray, seen, scan, scanned-between}
 use Rattle.runs.specs.declared.Seen.{Seen}
@@ -20,7 +21,7 @@ to-seen r ms = pick-seen (r .ok) (r .count) ms (r .sum)
 pub record Scans (s : List ℕ) (c e from n0 sum0 : ℕ) (m m' : List ℕ) (r : Seen) : Type 0 where
   pub few : r .count ≤ n0 + e
   pub less-sum : r .sum ≤ sum0 + e
-  pub all : to-seen r m' ≡ scan bitMarks s (suc e) c e from 3 n0 m sum0
+  pub all : to-seen r m' ≡ scan bitMarks s (suc e) c e from held-flags n0 m sum0
 
 -- both runs
 pub record ScansBoth (s : List ℕ) (a b e : ℕ) (m m' : List ℕ) (r : Seen) : Type 0 where

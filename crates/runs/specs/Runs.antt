@@ -3,7 +3,7 @@ use mathlib.Core.List.{List, [], _∷_}
 use Prim.Native.Nat.{ℕ, zero, suc, _+_, _-_, _*_, _/_, _%_}
 use Rattle.words.specs.Choice.{if=, if<}
 use Rattle.words.specs.Words.{wordAt}
-use Rattle.heads.specs.Heads.{sizeAt}
+use Rattle.heads.specs.Heads.{flagsAt, flagsOf, free-flags, held-flags, sizeAt, sizeOf}
 use Rattle.paper.specs.Layout.{blocks-at, large}
 use Rattle.guards.specs.Tests.{Test, same, less, guard}
 use Rattle.marks.specs.MarkSets.{MarkSet}
@@ -28,12 +28,12 @@ fit-size z c e p = less 7 z ∷ same (small z) c ∷ same (z % 8) 0 ∷ less (p 
 
 -- of a head w that is not a held one's, with the footer u, where a held one's flags were to be `due`
 abbrev pub free-words : ℕ → ℕ → ℕ → List Test
-free-words w u due = same due 3 ∷ same (w % 4) 2 ∷ same u w ∷ []
+free-words w u due = same due held-flags ∷ same (flagsOf w) free-flags ∷ same u w ∷ []
 
 module _ (bs : List ℕ) where
   -- only a large block has a footer
   abbrev pub footOf : ℕ → ℕ → ℕ
-  footOf w p = if< (w / 4) large w (wordAt 4 bs (p + (w / 4 - 4)))
+  footOf w p = if< (sizeOf w) large w (wordAt 4 bs (p + (sizeOf w - 4)))
 
   abbrev pub footAt : ℕ → ℕ
   footAt p = footOf (wordAt 4 bs p) p
@@ -53,11 +53,11 @@ module _ {M : Type 0} (O : MarkSet M) (bs : List ℕ) where
   unfoldable pub scan : ℕ → ℕ → ℕ → ℕ → ℕ → ℕ → M → ℕ → Scanned M
   scan zero c e p due n ms sum = stray
   scan (suc k) c e p due n ms sum =
-      let on = scan k c e (p + sizeAt bs p) 3 n ms sum in
+      let on = scan k c e (p + sizeAt bs p) held-flags n ms sum in
       let on-free = scan k c e (p + sizeAt bs p) (2 * c + 1) (suc n) (O .put ms p) (sum + sizeAt bs p) in
-      if= p e (guard (same due 3 ∷ []) stray (seen n ms sum))
-      (guard (fit-tests bs c e p) stray (if= (wordAt 4 bs p % 4) due on (guard (free-tests bs due p) stray on-free)))
+      if= p e (guard (same due held-flags ∷ []) stray (seen n ms sum))
+      (guard (fit-tests bs c e p) stray (if= (flagsAt bs p) due on (guard (free-tests bs due p) stray on-free)))
 
   -- the large blocks from 168 to a, then the small ones from b to e
   abbrev pub scanned-between : ℕ → ℕ → ℕ → M → Scanned M
-  scanned-between a b e ms = if-seen (scan (suc a) 0 a blocks-at 3 0 ms 0) stray (λ n ms' sum. scan (suc e) 1 e b 3 n ms' sum)
+  scanned-between a b e ms = if-seen (scan (suc a) 0 a blocks-at held-flags 0 ms 0) stray (λ n ms' sum. scan (suc e) 1 e b held-flags n ms' sum)

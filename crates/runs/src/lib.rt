@@ -4,6 +4,9 @@ ghost use Rattle.guards.specs.Tests.{pass};
 ghost use Rattle.paper.specs.Layout.{blocks-at};
 ghost use Rattle.runs.specs.Runs.{fit-size, free-at};
 ghost use Rattle.runs.specs.Contract.{Scans, ScansBoth};
+use heads::FREE;
+use heads::HELD;
+use heads::HELD_ABOVE_FREE;
 use paper::BLOCKS;
 use paper::LARGE;
 
@@ -24,17 +27,17 @@ pub fn scan_both(pool: &[u8], m: &mut [u64], a: u32, b: u32, e: u32) -> Seen
     scan_small(pool, m, e, b, lo.count as u32, lo.sum as u32)
 }
 
-// The large blocks up to e. `due` is what the flags of a held block must be here: 3, and 1 above a free block, which needs 3.
+// The large blocks up to e. `due` is what the flags of a held block must be here. A free block needs them to have P, so no two free ones touch.
 fn scan_large(pool: &[u8], m: &mut [u64], e: u32) -> Seen
     ensures { λ r. ⌜ Scans (now (pool .entry)) 0 e blocks-at 0 0 (now (m .entry)) (now (m .exit)) r ⌝ }
 {
     let mut p = BLOCKS;
-    let mut due = 3;
+    let mut due = HELD;
     let mut n = 0;
     let mut sum = 0;
     while p != e {
         let w = words::get32(pool, p as usize);
-        let z = w / 4;
+        let z = heads::size_of(w);
         if !fits_large(z, e, p) {
             return Seen {
                 ok: false,
@@ -42,8 +45,8 @@ fn scan_large(pool: &[u8], m: &mut [u64], e: u32) -> Seen
                 sum: 0,
             };
         }
-        if w % 4 == due {
-            due = 3;
+        if heads::flags_of(w) == due {
+            due = HELD;
             p += z;
             continue;
         }
@@ -57,11 +60,11 @@ fn scan_large(pool: &[u8], m: &mut [u64], e: u32) -> Seen
         marks::mark(m, p);
         n += 1;
         sum += z as usize;
-        due = 1;
+        due = HELD_ABOVE_FREE;
         p += z;
     }
     Seen {
-        ok: due == 3,
+        ok: due == HELD,
         count: n,
         sum,
     }
@@ -77,7 +80,7 @@ fn scan_small(pool: &[u8], m: &mut [u64], e: u32, from: u32, n0: u32, sum0: u32)
     let mut sum = sum0 as usize;
     while p != e {
         let w = words::get32(pool, p as usize);
-        let z = w / 4;
+        let z = heads::size_of(w);
         if !fits_small(z, e, p) {
             return Seen {
                 ok: false,
@@ -85,11 +88,12 @@ fn scan_small(pool: &[u8], m: &mut [u64], e: u32, from: u32, n0: u32, sum0: u32)
                 sum: 0,
             };
         }
-        if w % 4 == 3 {
+        let flags = heads::flags_of(w);
+        if flags == HELD {
             p += z;
             continue;
         }
-        if w % 4 != 2 {
+        if flags != FREE {
             return Seen {
                 ok: false,
                 count: 0,
@@ -141,13 +145,13 @@ fn fits_small(z: u32, e: u32, p: u32) -> bool
 fn free_ok(pool: &[u8], w: u32, due: u32, p: u32) -> bool
     ensures { λ r. ⌜ r ≡ pass (free-at (now (pool .entry)) w due p) ⌝ }
 {
-    if due != 3 {
+    if due != HELD {
         return false;
     }
-    if w % 4 != 2 {
+    if heads::flags_of(w) != FREE {
         return false;
     }
-    let z = w / 4;
+    let z = heads::size_of(w);
     if z < LARGE {
         return true;
     }

@@ -18,7 +18,8 @@ remainder-ok-spec =
     (λ c. let x = c .before .before .before .before .before .before .args in pass-no (rest-between (x .pool .now) (x .a) (x .b)) (λ t. omega arith))
     (λ c. let x = c .before .before .before .before .before .before .before .args in
     pass-no (rest-between (x .pool .now) (x .a) (x .b)) (λ t. omega arith))
-    (λ c κs. search needs) (λ c. search needs) (λ c. search needs) (λ c. search needs) (λ c. search needs) (λ c. search needs)
-    (λ c. rest-is _ _ _ (c .before .before .before .before .before .before .if1 .left) (c .before .before .before .before .before .if2 .left)
-    (c .before .before .before .before .if3 .left) (c .before .before .before .if4 .left) (c .before .before .if5 .left) (c .before .if6 .left)
-    (c .get32 .ensures)))
+    (λ c κs. search needs) (λ c. search needs) (λ c κs. search needs)
+    (λ c. let d = c .before .before in
+    rest-is _ _ _ (d .before .before .before .before .before .if1 .left) (d .before .before .before .before .if2 .left)
+    (d .before .before .before .if3 .left) (d .before .before .if4 .left) (d .before .if5 .left) (d .if6 .left)
+    (c .before .get32 .ensures) (c .free-head .ensures)))

@@ -13,11 +13,11 @@ first-ok-spec =
     tie.close
     (tie.spec (λ c κs. search needs)
     (λ c. let x = c .before .before .before .args in
-    pass-no (first-tests (x .pool .now) (x .y) (x .f)) (λ t. omega (arith, c .before .get32 .ensures, c .if1 .taken, t .0)))
+    pass-no (first-tests (x .pool .now) (x .y) (x .f)) (λ t. omega (arith, c .before .size-at .ensures, c .if1 .taken, t .0)))
     (λ c κs. search needs)
     (λ c. let x = c .before .before .before .before .before .args in
     pass-no (first-tests (x .pool .now) (x .y) (x .f)) (λ t. c .if2 .taken (c .before .field .ensures ∙ t .1 .0)))
     (λ c κs. search needs) (λ c κs. search needs)
     (λ c. let level = c .before .before .before in
-    first-is _ _ _ (level .before .before .get32 .ensures) (level .before .if1 .left) (level .field .ensures) (c .before .before .if2 .left)
+    first-is _ _ _ (level .before .before .size-at .ensures) (level .before .if1 .left) (level .field .ensures) (c .before .before .if2 .left)
     (c .before .field2 .ensures) (c .link-ok .ensures)))

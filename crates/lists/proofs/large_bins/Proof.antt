@@ -17,7 +17,7 @@ lose : tie.Need-returns-2 Inv-loop μ-loop
 lose c =
     let d = c .before .before .before .before .before .before .before in
     chain-lost (d .before .before .before .loop .inv) (d .before .before .loop-test .taken) (d .before .first-ok .ensures) (d .if1 .left)
-    (c .before .before .before .before .before .before .get32 .ensures)
+    (c .before .before .before .before .before .before .size-at .ensures)
     (c .before .before .before .before .follow-large .result) _ (c .before .before .before .before .follow-large .ensures) (c .if2 .taken)
 
 fewer : tie.Need-loop-less Inv-loop μ-loop
@@ -25,7 +25,7 @@ fewer c =
     let e = c .before .before in
     let d = e .before .before .before .before .before .before .before in
     bin-less (d .before .before .before .loop .inv) (d .before .before .loop-test .taken) (d .before .first-ok .ensures) (d .if1 .left)
-    (e .before .before .before .before .before .before .get32 .ensures)
+    (e .before .before .before .before .before .before .size-at .ensures)
     (e .before .before .before .before .follow-large .result) _ (e .before .before .before .before .follow-large .ensures) (e .if2 .left)
 
 more : tie.Need-loop-again Inv-loop μ-loop
@@ -33,13 +33,13 @@ more c =
     let e = c .before .before in
     let d = e .before .before .before .before .before .before .before in
     chain-on (d .before .before .before .loop .inv) (d .before .before .loop-test .taken) (d .before .first-ok .ensures) (d .if1 .left)
-    (e .before .before .before .before .before .before .get32 .ensures)
+    (e .before .before .before .before .before .before .size-at .ensures)
     (e .before .before .before .before .follow-large .result) _ (e .before .before .before .before .follow-large .ensures) (e .if2 .left)
     (search needs) (c .before .field .ensures) (c .follow .ensures) (search needs)
 
 pub large-bins-spec : {M : Type 1} → statement M
 large-bins-spec =
     tie.close
-    (tie.spec Inv-loop μ-loop (λ c. chain-start _ _ _ _ (search needs)) (λ c κs. search needs) (λ c. search needs) unfit (λ c. search needs)
+    (tie.spec Inv-loop μ-loop (λ c. chain-start _ _ _ _ (search needs)) (λ c κs. search needs) (λ c. search needs) unfit
     (λ c κs. search needs) (λ c κs. search needs) (λ c. search needs) lose (λ c κs. search needs) (λ c κs. search needs) fewer more
     (λ c. search needs) (λ c. search chain-done))

@@ -1,6 +1,5 @@
 -- `large_ok`: a failing test refuses; the last one decides.
-use mathlib.Core.Path.{ap, sym, _∙_}
-use Prim.Native.Nat.{ℕ, _/_}
+use mathlib.Core.Path.{sym, _∙_}
 use borrow.Author.Needs.{needs}
 use Rattle.guards.proofs.Guards.{pass-no}
 use Rattle.lists.specs.Lists.{asked, large-tests}
@@ -18,7 +17,7 @@ large-ok-spec =
     (λ c κs. search needs)
     (λ c. let x = c .before .before .before .before .before .before .args in
     pass-no (asked bitMarks (large-tests (x .pool .now) (x .z)) (x .m .now) (x .p) (x .q))
-    (λ t. c .if2 .taken (ap (λ (v : ℕ). v / 4) (c .before .get32 .ensures) ∙ t .1 .0)))
+    (λ t. c .if2 .taken (c .before .size-at .ensures ∙ t .1 .0)))
     (λ c κs. search needs) (λ c κs. search needs)
     (λ c. let x = c .before .before .before .before .before .before .before .before .before .args in
     pass-no (asked bitMarks (large-tests (x .pool .now) (x .z)) (x .m .now) (x .p) (x .q))
@@ -26,6 +25,6 @@ large-ok-spec =
     (λ c κs. search needs) (λ c κs. search needs)
     (λ c. let head = c .before .before .before .before .before .before in
     let back = c .before .before .before .before in
-    large-is _ _ _ _ _ (head .before .before .marked .ensures) (head .before .if1 .left) (head .get32 .ensures) (back .before .if2 .left)
+    large-is _ _ _ _ _ (head .before .before .marked .ensures) (head .before .if1 .left) (head .size-at .ensures) (back .before .if2 .left)
     (back .field .ensures) (c .before .before .before .link-word .ensures) (c .before .before .if3 .left) (c .before .field2 .ensures)
     (c .link-ok .ensures)))

@@ -12,4 +12,4 @@ small-ok-spec =
     (λ c. let x = c .before .before .before .before .args in
     unmarked (small-tests (x .pool .now) (x .z)) _ 0 _ (c .before .marked .ensures) (c .if1 .taken))
     (λ c κs. search needs)
-    (λ c. small-is _ _ _ _ (c .before .before .marked .ensures) (c .before .if1 .left) (c .get32 .ensures)))
+    (λ c. small-is _ _ _ _ (c .before .before .marked .ensures) (c .before .if1 .left) (c .size-at .ensures)))
