@@ -14,7 +14,7 @@ use Rattle.paper.specs.GivingBack.{heldAt}
 use Rattle.paper.specs.GivingBack as paper
 use Rattle.paper.proofs.runs.HeldWalk.{held-within}
 use Rattle.reading.specs.Read.{read}
-use Rattle.reading.proofs.Asked.{found}
+use Rattle.reading.proofs.Asked.{read-sound}
 use Rattle.pool.specs.declared.parts.Span.{Span}
 use Rattle.pool.specs.Parts.{Bounds}
 use Rattle.pool.specs.Calls.{Lent, partFrom, partTo}
@@ -42,7 +42,7 @@ module _ (bs : List ℕ) (offset : ℕ) where
       absurd (let y : _≡_ {A = ℕ} 0 1 = cc in omega arith))
       (λ n. let d : Done (heldAt s offset - 4) ≡ Done v = sym (if=-no (heldAt s offset) 0 _ _ n) ∙ e in
       let w : heldAt s offset - 4 ≡ v = cc in
-      let S = found bs s r .stands in (
+      let S = read-sound bs s r .stands in (
         if=-no (heldAt s offset) 0 _ _ n,
         if=-no (heldAt s offset) 0 _ _ n ∙ ap (λ (y : ℕ). offset + y) w,
         omega (arith, held-within s (S .well-formed) offset n, S .ends),

@@ -21,7 +21,7 @@ use Rattle.paper.proofs.keeps.TakeKeeps.{take-refused}
 use Rattle.paper.proofs.reads.Stands.{Stands}
 use Rattle.pool.specs.Calls.{layOut, inspect, take, giveBack, ask, figures, classCount}
 use Rattle.reading.specs.Read.{read}
-use Rattle.reading.proofs.Asked.{found}
+use Rattle.reading.proofs.Asked.{read-sound}
 
 -- a public call on a pool of lent bytes, with its number or its lent list
 pub data Call : Type 0 where
@@ -70,12 +70,12 @@ same-written bs s s' S e = ap (λ (t : State). write (sheet t) bs) e ∙ S .hold
 takes-unchanged : (bs : List ℕ) (size : ℕ) (x : Reading) → read bs ≡ x → Unchanged bs (takeCall x bs size)
 takes-unchanged bs size misfit r k e = refl
 takes-unchanged bs size broken r k e = refl
-takes-unchanged bs size (sound s) r k e = same-written bs s _ (found bs s r .stands) (take-refused s size k e)
+takes-unchanged bs size (sound s) r k e = same-written bs s _ (read-sound bs s r .stands) (take-refused s size k e)
 
 gives-unchanged : (bs : List ℕ) (offset : ℕ) (x : Reading) → read bs ≡ x → Unchanged bs (giveBackCall x bs offset)
 gives-unchanged bs offset misfit r k e = refl
 gives-unchanged bs offset broken r k e = refl
-gives-unchanged bs offset (sound s) r k e = same-written bs s _ (found bs s r .stands) (giveBack-refused s offset k e .0)
+gives-unchanged bs offset (sound s) r k e = same-written bs s _ (read-sound bs s r .stands) (giveBack-refused s offset k e .0)
 
 counts-unchanged : (cs : List ℕ) (x : Reading) → Unchanged cs (classCountCall x cs)
 unfolding classCountOf

@@ -18,26 +18,29 @@ use Rattle.reading.specs.Read.{bytes?, readInspected, readAllowed, read,
 
 -- ---- what is read as sound stands for the state that was read, and is bytes
 
-pub record Found (bs : List ℕ) (s : State) : Type 0 where
+pub record ReadSound (bs : List ℕ) (s : State) : Type 0 where
   pub stands : Stands s bs
   pub bytes : Bytes bs
 
+never : {s : State} → broken ≡ sound s → ⊥
+never e = let z : _≡_ {A = ℕ} 0 1 = cc in omega arith
+
 module _ (bs : List ℕ) where
-  found-inspected : (d : Dec (Bytes bs)) (b : Bool) (e : inspected bs ≡ b) (s : State) → readInspected bs d b e ≡ sound s → Found bs s
-  found-inspected (yes k) true e s h =
+  inspected-sound : (d : Dec (Bytes bs)) (b : Bool) (e : inspected bs ≡ b) (s : State) → readInspected bs d b e ≡ sound s → ReadSound bs s
+  inspected-sound (yes k) true e s h =
       let same : accepted-sound bs k e .state ≡ s = cc in
       record { stands = subst (λ (t : State). Stands t bs) same (sound-stands bs (accepted-sound bs k e)); bytes = k }
-  found-inspected (no k) true e s h = absurd (let z : _≡_ {A = ℕ} 0 1 = cc in omega arith)
-  found-inspected (yes k) false e s h = absurd (let z : _≡_ {A = ℕ} 0 1 = cc in omega arith)
-  found-inspected (no k) false e s h = absurd (let z : _≡_ {A = ℕ} 0 1 = cc in omega arith)
+  inspected-sound (no k) true e s h = absurd (never h)
+  inspected-sound (yes k) false e s h = absurd (never h)
+  inspected-sound (no k) false e s h = absurd (never h)
 
-  found-allowed : (b : Bool) (s : State) → readAllowed bs b ≡ sound s → Found bs s
-  found-allowed true s h = found-inspected (bytes? bs) (inspected bs) refl s h
-  found-allowed false s h = absurd (let z : _≡_ {A = ℕ} 0 1 = cc in omega arith)
+  allowed-sound : (b : Bool) (s : State) → readAllowed bs b ≡ sound s → ReadSound bs s
+  allowed-sound true s h = inspected-sound (bytes? bs) (inspected bs) refl s h
+  allowed-sound false s h = absurd (let z : _≡_ {A = ℕ} 0 1 = cc in omega arith)
 
-  pub found : (s : State) → read bs ≡ sound s → Found bs s
+  pub read-sound : (s : State) → read bs ≡ sound s → ReadSound bs s
   unfolding read
-  found s h = found-allowed (allowed (length bs)) s h
+  read-sound s h = allowed-sound (allowed (length bs)) s h
 
 -- ---- the two ways of a call
 
@@ -59,7 +62,7 @@ number-served (sound s) e = (s, refl)
 module _ (bs : List ℕ) {why : ℕ} (asked : why ≡ refusal bs) where
   pub served-allowed : why ≡ 0 → Allowed (length bs)
   unfolding refusal number
-  served-allowed z = let r = number-served (read bs) (sym asked ∙ z) in stands-allowed (r .0) bs (found bs (r .0) (r .1) .stands)
+  served-allowed z = let r = number-served (read bs) (sym asked ∙ z) in stands-allowed (r .0) bs (read-sound bs (r .0) (r .1) .stands)
 
   module _ {A : Type 0} (f : ℕ → A) (g : State → A) where
     pub refused : why ≢ 0 → byReading (read bs) f g ≡ f why
@@ -70,5 +73,5 @@ module _ (bs : List ℕ) {why : ℕ} (asked : why ≡ refusal bs) where
     unfolding refusal number
     served z h =
         let r = number-served (read bs) (sym asked ∙ z) in
-        let k = found bs (r .0) (r .1) in
+        let k = read-sound bs (r .0) (r .1) in
         ap (λ (x : Reading). byReading x f g) (r .1) ∙ h (r .0) (k .stands) (k .bytes)
