@@ -8,11 +8,11 @@ use Rattle.giveback.proofs.LargeBytes.{large-bytes}
 use Rattle.giveback.proofs.SmallBytes.{small-bytes}
 use Rattle.giveback.specs.GiveBack.{giveBack}
 use Rattle.paper.proofs.keeps.BackKeeps.{giveBack-large, giveBack-small}
-use Rattle.paper.proofs.runs.HeldPlaces.{held-large, held-small}
+use Rattle.paper.proofs.runs.HeldPlaces.{held-large, held-small, heldAt}
 use Rattle.paper.proofs.runs.Neighbours.{run}
 use Rattle.paper.proofs.reads.Stands.{Stands}
 use Rattle.paper.specs.Blocks.{State}
-use Rattle.paper.specs.GivingBack.{heldAt, giveBack as giveBack-state}
+use Rattle.paper.specs.GivingBack.{giveBack as giveBack-state}
 use Rattle.paper.specs.Governed.{sheet}
 use Rattle.paper.specs.Layout.{large}
 use Rattle.paper.specs.Sheet.{write}
@@ -26,8 +26,8 @@ back-bytes s bs S B offset n =
     by< (heldAt s offset) large
     (λ l. if<-yes (heldAt s offset) large _ _ l
     ∙ small-bytes s bs S (offset - 4) (heldAt s offset) (held-small s (S .well-formed) offset (omega arith) l)
-    ∙ ap (λ (k : State). write (sheet k) bs) (sym (giveBack-small s offset (omega arith) l)))
+    ∙ ap (λ (k : State). write (sheet k) bs) (sym (giveBack-small s (S .well-formed) offset (omega arith) l)))
     (λ l. if<-no (heldAt s offset) large _ _ l
     ∙ large-bytes s bs S B (offset - 4) (heldAt s offset)
     (run s (S .well-formed) (offset - 4) (heldAt s offset) (held-large s (S .well-formed) offset l))
-    ∙ ap (λ (k : State). write (sheet k) bs) (sym (giveBack-large s offset l)))
+    ∙ ap (λ (k : State). write (sheet k) bs) (sym (giveBack-large s (S .well-formed) offset l)))

@@ -9,5 +9,6 @@ pub mod Sums
 pub mod FewFree
 pub mod HeldPlaces
 pub mod HeldWalk
+pub mod LookedUp
 pub mod Asking
 pub mod Neighbours

@@ -18,7 +18,8 @@ use Rattle.paper.specs.Governed.{sheet}
 use Rattle.paper.specs.Sound.{Sound}
 use Rattle.paper.specs.Fresh.{fresh}
 use Rattle.paper.specs.Granting.{Result, take}
-use Rattle.paper.specs.GivingBack.{heldAt, ask, giveBack}
+use Rattle.paper.specs.GivingBack.{ask, giveBack}
+use Rattle.paper.specs.LookingUp.{lookUp, byOffset}
 use Rattle.paper.specs.Counting.{heldOne, figures, classCounters}
 
 -- ---- what a call finds when it reads the pool
@@ -68,10 +69,10 @@ askCall r offset = byReading r Refused (λ s. ask s offset)
 
 -- "A refused lend returns the empty part at the pool's end.": where the part starts and where it ends
 abbrev pub lendFrom : Reading → List ℕ → ℕ → ℕ
-lendFrom r bs offset = byReading r (λ k. length bs) (λ s. if= (heldAt s offset) 0 (length bs) offset)
+lendFrom r bs offset = byReading r (λ k. length bs) (λ s. byOffset (lookUp s offset) offset (λ k. length bs) (λ q z. offset))
 
 abbrev pub lendTo : Reading → List ℕ → ℕ → ℕ
-lendTo r bs offset = byReading r (λ k. length bs) (λ s. if= (heldAt s offset) 0 (length bs) (offset + (heldAt s offset - 4)))
+lendTo r bs offset = byReading r (λ k. length bs) (λ s. byOffset (lookUp s offset) offset (λ k. length bs) (λ q z. offset + (z - 4)))
 
 abbrev pub figuresCall : Reading → Tally
 figuresCall r = byReading r Uncounted (λ s. Counted (figures s))

@@ -1,23 +1,19 @@
--- "How a block comes back": looking an offset up, the answer of a give-back, and the state afterwards.
+-- "How a block comes back": the answer of a give-back, and the state afterwards; and asking, which answers the same.
 use mathlib.Core.List.{List, [], _∷_}
 use Prim.Native.Nat.{ℕ, _+_, _-_}
 use Rattle.words.specs.Choice.{if=, if<}
 use Rattle.paper.specs.declared.Answer.{Answer}
 use Rattle.paper.specs.declared.Answer.the-variants.{Done, Refused}
-use Rattle.paper.specs.Answers.{not-held}
 use Rattle.paper.specs.Layout.{blocks-at, large}
-use Rattle.paper.specs.Blocks.{held, free, Block, block, State, blocks}
+use Rattle.paper.specs.Blocks.{free, Block, block, State}
 use Rattle.paper.specs.Bins.{rebin, enter, leave}
-use Rattle.paper.specs.Runs.{under, replace, startsAt, endsAt, heldSize, freeSize}
+use Rattle.paper.specs.Runs.{under, replace, startsAt, endsAt, freeSize}
 use Rattle.paper.specs.Granting.{Result, refused, R, E}
-
--- "Offset isn't 4 past the start of a held block": the size of that block, 0 where there is none
-unfoldable pub heldAt : State → ℕ → ℕ
-heldAt s offset = if< offset 4 0 (startsAt heldSize (blocks s) blocks-at (offset - 4))
+use Rattle.paper.specs.LookingUp.{lookUp, byOffset}
 
 -- "Ask returns the payload bytes, block size less 4"
 unfoldable pub ask : State → ℕ → Answer
-ask s offset = if= (heldAt s offset) 0 (Refused not-held) (Done (heldAt s offset - 4))
+ask s offset = byOffset (lookUp s offset) offset Refused (λ q z. Done (z - 4))
 
 -- "Small: put at the front of its bin."
 unfoldable pub giveBackSmall : State → ℕ → ℕ → State
@@ -57,7 +53,6 @@ giveBackLarge s q z =
 -- "Give-back returns the payload bytes, block size less 4, read from the head."
 unfoldable pub giveBack : State → ℕ → Result
 giveBack s offset =
-    let z = heldAt s offset in
-    if= z 0
-    (refused not-held s)
-    (record { answer = Done (z - 4); state = if< z large (giveBackSmall s (offset - 4) z) (giveBackLarge s (offset - 4) z) })
+    byOffset (lookUp s offset) offset
+    (λ k. refused k s)
+    (λ q z. record { answer = Done (z - 4); state = if< z large (giveBackSmall s q z) (giveBackLarge s q z) })

@@ -21,6 +21,14 @@ pub enum Answer {
     Refused(u8),
 }
 
+// The block that an address is in, by its kind, with its start and its size; or nothing, outside the blocks.
+pub enum Found {
+    Held(u32, u32),
+    Free(u32, u32),
+    Remainder(u32, u32),
+    Nothing,
+}
+
 // The seven figures of a pool.
 pub struct Figures {
     pub held_blocks: u32,

@@ -8,12 +8,11 @@ use Prim.Native.Nat.{ℕ, _+_, _-_, _≤_, _<_}
 use native.Mathlib.Omega.{arith}
 use lib.ListN.{getD, length, take as firsts, drop, length-drop}
 use lib.Seq.{length-take-le}
-use Rattle.words.specs.Choice.{if=-yes, if=-no, by=}
 use Rattle.words.specs.Words.{Bytes}
 use Rattle.paper.specs.declared.Answer.the-variants.{Done, Refused}
 use Rattle.paper.specs.Blocks.{State, end}
 use Rattle.paper.specs.Calls.{Reading, Reads, misfit, broken, sound, takeCall, giveBackCall, askCall, lendFrom, lendTo}
-use Rattle.paper.specs.GivingBack.{heldAt, ask as askState, giveBack as giveBackState}
+use Rattle.paper.specs.GivingBack.{ask as askState, giveBack as giveBackState}
 use Rattle.paper.specs.Governed.{sheet}
 use Rattle.paper.specs.Granting.{take as takeState}
 use Rattle.paper.specs.Sheet.{write}
@@ -26,7 +25,10 @@ use Rattle.paper.proofs.keeps.TakeThenHeld.{take-keeps-held as take-keeps-held-
 use Rattle.paper.proofs.reads.PayloadWrites.{payloads-apart, stands-payload-replaced, written-payload}
 use Rattle.paper.proofs.reads.Standing.{sound-stands, stands-sound}
 use Rattle.paper.proofs.reads.Stands.{Stands}
+use Rattle.paper.proofs.runs.Asking.{ask-done}
+use Rattle.paper.proofs.runs.HeldPlaces.{heldAt}
 use Rattle.paper.proofs.runs.HeldWalk.{held-within}
+use Rattle.paper.proofs.runs.LookedUp.{lookUp-held}
 use Rattle.paper.proofs.sheet.Parts.{part-replaced, part-same, replaced-below, replaced-bytes, replaced-length, replaced-past, replacedPart}
 use Rattle.paper.proofs.sheet.WrittenBytes.{write-bytes}
 use Rattle.pool.specs.Calls.{take, giveBack, ask, part, partFrom, partTo}
@@ -51,12 +53,11 @@ reads-stands : (bs : List ℕ) (s : State) → Reads bs (sound s) → Stands s b
 reads-stands bs s r = subst (λ (t : State). Stands t bs) (r .1) (sound-stands bs (r .0))
 
 module _ (bs : List ℕ) (offset : ℕ) where
-  part-by : (s : State) → read bs ≡ sound s → 1 ≤ heldAt s offset → part bs offset ≡ payloadOf s bs offset
+  part-by : (s : State) → Stands s bs → read bs ≡ sound s → 1 ≤ heldAt s offset → part bs offset ≡ payloadOf s bs offset
   unfolding partFrom partTo
-  part-by s e l =
-      let from : partFrom bs offset ≡ offset = ap (λ (x : Reading). lendFrom x bs offset) e ∙ if=-no (heldAt s offset) 0 _ _ (omega arith) in
-      let to : partTo bs offset ≡ offset + (heldAt s offset - 4) =
-      ap (λ (x : Reading). lendTo x bs offset) e ∙ if=-no (heldAt s offset) 0 _ _ (omega arith) in
+  part-by s S e l =
+      let from : partFrom bs offset ≡ offset = ap (λ (x : Reading). lendFrom x bs offset) e ∙ lookUp-held offset _ _ s (S .well-formed .sized) (omega arith) in
+      let to : partTo bs offset ≡ offset + (heldAt s offset - 4) = ap (λ (x : Reading). lendTo x bs offset) e ∙ lookUp-held offset _ _ s (S .well-formed .sized) (omega arith) in
       let k : partTo bs offset - partFrom bs offset ≡ heldAt s offset - 4 = omega arith in
       rw (k, from)
 
@@ -78,8 +79,9 @@ module _ (bs : List ℕ) (offset : ℕ) where
         go misfit e r a = never _ _ a
         go broken e r a = never _ _ a
         go (sound s) e r a =
-            by= (heldAt s offset) 0 (λ n. never _ _ (sym (if=-yes (heldAt s offset) 0 _ _ n) ∙ a))
-            (λ n. (s, record { reading = r; one = omega arith; bytes-of = sym (h .lent) ∙ part-by s e (omega arith) }))
+            let S = reads-stands bs s r in
+            let one : 1 ≤ heldAt s offset = omega (arith, ask-done s (S .well-formed) offset (length payload) a .0) in
+            (s, record { reading = r; one = one; bytes-of = sym (h .lent) ∙ part-by s S e one })
 
     pub by-held : (s : State) → Reads bs (sound s) → 1 ≤ heldAt s offset → Held bs offset (payloadOf s bs offset)
     unfolding ask askState
@@ -90,8 +92,8 @@ module _ (bs : List ℕ) (offset : ℕ) where
         (omega (arith, length-drop offset bs, held-within s (S .well-formed) offset (omega arith) .ends, S .ends)) in
         record {
           asked =
-              ap (λ (x : Reading). askCall x offset) (read-is bs bytes s r) ∙ if=-no (heldAt s offset) 0 _ _ (omega arith) ∙ ap Done (sym k);
-          lent = part-by s (read-is bs bytes s r) l;
+              ap (λ (x : Reading). askCall x offset) (read-is bs bytes s r) ∙ lookUp-held offset _ _ s (S .well-formed .sized) (omega arith) ∙ ap Done (sym k);
+          lent = part-by s S (read-is bs bytes s r) l;
         }
 
 -- ---- a take and a give-back

@@ -75,7 +75,7 @@ takes-unchanged bs size (sound s) r k e = same-written bs s _ (read-sound bs s r
 gives-unchanged : (bs : List ℕ) (offset : ℕ) (x : Reading) → read bs ≡ x → Unchanged bs (giveBackCall x bs offset)
 gives-unchanged bs offset misfit r k e = refl
 gives-unchanged bs offset broken r k e = refl
-gives-unchanged bs offset (sound s) r k e = same-written bs s _ (read-sound bs s r .stands) (giveBack-refused s offset k e .0)
+gives-unchanged bs offset (sound s) r k e = let S = read-sound bs s r .stands in same-written bs s _ S (giveBack-refused s (S .well-formed) offset k e .0)
 
 counts-unchanged : (cs : List ℕ) (x : Reading) → Unchanged cs (classCountCall x cs)
 unfolding classCountOf

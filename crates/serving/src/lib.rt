@@ -9,15 +9,29 @@ ghost use mathlib.Core.Path.{_≡_};
 ghost use Rattle.paper.specs.Answers.{out};
 ghost use Rattle.serving.specs.Models as model;
 use paper::Answer;
+use paper::Found;
+
+// The size of the held block whose payload starts at `offset`, by the block that the offset is in; or the refusal.
+fn held_there(found: Found, offset: u32) -> Answer
+    ensures { λ r. ⌜ r ≡ model.heldThere found offset ⌝ }
+{
+    let Found::Held(start, size) = found else {
+        return Answer::Refused(paper::NOT_HELD);
+    };
+    if offset as usize != start as usize + 4 {
+        return Answer::Refused(paper::NOT_HELD);
+    }
+    Answer::Done(size)
+}
 
 // Takes the block of the payload at `offset` back; answers the payload's bytes.
 pub fn give_back(pool: &mut [u8], offset: u32) -> Answer
     ensures { λ r. ⌜ model.giveBack (now (pool .entry)) offset ≡ out r (now (pool .exit)) ⌝ }
 {
-    let z = walk::held_at(pool, offset);
-    if z == 0 {
-        return Answer::Refused(paper::NOT_HELD);
-    }
+    let found = held_there(walk::look_up(pool, offset), offset);
+    let Answer::Done(z) = found else {
+        return found;
+    };
     giveback::give_back(pool, words::minus(offset, 4), z);
     Answer::Done(words::minus(z, 4))
 }
@@ -26,10 +40,10 @@ pub fn give_back(pool: &mut [u8], offset: u32) -> Answer
 pub fn ask(pool: &[u8], offset: u32) -> Answer
     ensures { λ r. ⌜ r ≡ model.ask (now (pool .entry)) offset ⌝ }
 {
-    let z = walk::held_at(pool, offset);
-    if z == 0 {
-        return Answer::Refused(paper::NOT_HELD);
-    }
+    let found = held_there(walk::look_up(pool, offset), offset);
+    let Answer::Done(z) = found else {
+        return found;
+    };
     Answer::Done(words::minus(z, 4))
 }
 

@@ -1,8 +1,8 @@
 pub mod Along
 pub mod Cleared
+pub mod Looking
 pub mod BlocksRead
-pub mod PlaceRead
-pub mod HeldRead
+pub mod LookUpRead
 pub mod RunSums
 pub mod FiguresRead
 pub mod ClassesRead

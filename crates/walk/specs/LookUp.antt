@@ -1,25 +1,35 @@
--- The model of looking an offset up: the walk must come to the block's start, and find it held.
+-- The model of looking an address up: from head to head, to the block that it is in.
 use mathlib.Core.List.{List}
-use Prim.Native.Nat.{ℕ, _+_, _-_}
+use Prim.Native.Nat.{ℕ, zero, suc, _+_}
 use Rattle.words.specs.Choice.{if<, if=, when}
+use Rattle.words.specs.Sums.{minus}
 use Rattle.words.specs.Words.{wordAt}
 use Rattle.heads.specs.declared.head.Head.{Head}
+use Rattle.paper.specs.declared.Found.{Found}
+use Rattle.paper.specs.declared.Found.the-variants.{Held, Free, Remainder, Nothing}
 use Rattle.paper.specs.Layout.{start-at, end-at, blocks-at}
-use Rattle.walk.specs.Blocks.{headAt, blocksFrom}
+use Rattle.walk.specs.Blocks.{headAt}
 
--- one block further
-abbrev pub past : ℕ → Head → ℕ
-past at h = at + h .size
+-- the block whose head stands at `at`
+unfoldable pub foundAt : Head → ℕ → Found
+foundAt h at = when (h .held) (Held at (h .size)) (Free at (h .size))
 
--- the size of the block at `start`, if the walk came there and the block is held
-unfoldable pub heldHere : List ℕ → ℕ → ℕ → ℕ
-heldHere bs at start = if= at start (when (headAt bs at .held) (headAt bs at .size) 0) 0
+module _ (bs : List ℕ) (a : ℕ) where
+  -- in at most k blocks
+  unfoldable pub blockIn : ℕ → ℕ → Found
+  blockIn zero at = Nothing
+  blockIn (suc k) at =
+      let h = headAt bs at in
+      let on = blockIn k (at + h .size) in
+      if= (h .size) 0 Nothing (if< a (at + h .size) (foundAt h at) on)
 
-unfoldable pub heldFrom : List ℕ → ℕ → ℕ → ℕ
-heldFrom bs from start = heldHere bs (blocksFrom past bs from start from) start
+  -- each block takes at least a byte, so that many suffice
+  unfoldable pub blockAt : ℕ → Found
+  blockAt from = blockIn (suc a) from
 
-unfoldable pub heldAt : List ℕ → ℕ → ℕ
-heldAt bs offset =
-    if< offset 4
-    0
-    (if< (offset - 4) (wordAt 4 bs start-at) (heldFrom bs blocks-at (offset - 4)) (heldFrom bs (wordAt 4 bs end-at) (offset - 4)))
+unfoldable pub lookUp : List ℕ → ℕ → Found
+lookUp bs a =
+    let start = wordAt 4 bs start-at in
+    let end = wordAt 4 bs end-at in
+    if< a blocks-at Nothing
+    (if< a start (blockAt bs a blocks-at) (if< a end (Remainder start (minus end start)) (blockAt bs a end)))

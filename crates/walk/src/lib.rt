@@ -1,10 +1,10 @@
 // Along the blocks, from 168 to R and from E to n. Total: a block of size 0, which no sound pool has, ends the walk.
 mod class_counts;
-mod look_up;
+mod looking_up;
 mod tallies;
 
 pub use class_counts::count_classes;
-pub use look_up::held_at;
+pub use looking_up::look_up;
 pub use tallies::tally;
 ghost use mathlib.Core.Path.{_≡_};
 ghost use Rattle.walk.specs.Blocks.{poolEnd};

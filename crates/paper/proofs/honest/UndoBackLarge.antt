@@ -8,7 +8,7 @@ use native.Mathlib.Omega.{arith}
 use Rattle.paper.proofs.runs.Asking.{heldAt-in}
 use Rattle.paper.proofs.keeps.BackKeeps.{giveBack-large}
 use Rattle.paper.proofs.bins.BinLaws.{count-enter, count-enter-self}
-use Rattle.paper.proofs.runs.HeldPlaces.{HeldLow}
+use Rattle.paper.proofs.runs.HeldPlaces.{HeldLow, heldAt}
 use Rattle.paper.proofs.runs.HeldWalk.{held-in}
 use Rattle.paper.proofs.keeps.Kept.{Kept, end-runs, kept-low, sized-low}
 use Rattle.paper.proofs.bins.Listed.{rebin-same}
@@ -22,7 +22,7 @@ use Rattle.paper.proofs.honest.Undone.{Undone, weight, weightOf}
 use Rattle.paper.proofs.sheet.Within.{Within, walk-within-held, within-by-walk}
 use Rattle.paper.specs.Bins.{count, enter, rebin}
 use Rattle.paper.specs.Blocks.{Block, State, block, blocks, end, free, held, remainder, total}
-use Rattle.paper.specs.GivingBack.{giveBack, giveBackLarge, heldAt, left, settle}
+use Rattle.paper.specs.GivingBack.{giveBack, giveBackLarge, left, settle}
 use Rattle.paper.specs.Governed.{blockWord, sheet, walk}
 use Rattle.paper.specs.Granting.{R}
 use Rattle.paper.specs.Honest.{gives}
@@ -120,7 +120,7 @@ module _ (s : State) (W : WellFormed s) (z x : ℕ) (l : List ℕ) (listed : s .
   leads-back : giveBack before (x + 4) .state ≡ s
   leads-back =
       let e : x + 4 - 4 ≡ x = omega arith in
-      giveBack-large before (x + 4) (omega (arith, found)) ∙ (λ i. giveBackLarge before (e i) (found i)) ∙ alone ∙ enters
+      giveBack-large before (kept .well-formed) (x + 4) (omega (arith, found)) ∙ (λ i. giveBackLarge before (e i) (found i)) ∙ alone ∙ enters
 
   -- ---- the governed words and the weight
 

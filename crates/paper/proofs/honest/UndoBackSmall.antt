@@ -8,7 +8,7 @@ use Rattle.paper.proofs.runs.Asking.{heldAt-in}
 use Rattle.paper.proofs.keeps.BackKeeps.{giveBack-small}
 use Rattle.paper.proofs.keeps.BackSmallKeeps.{giveBackSmall-is}
 use Rattle.paper.proofs.bins.Bins.{count-cons}
-use Rattle.paper.proofs.runs.HeldPlaces.{HeldHigh}
+use Rattle.paper.proofs.runs.HeldPlaces.{HeldHigh, heldAt}
 use Rattle.paper.proofs.runs.HeldWalk.{held-in}
 use Rattle.paper.proofs.keeps.Kept.{Kept, end-runs, kept-high, sized-high}
 use Rattle.paper.proofs.bins.Listed.{rebin-same}
@@ -20,7 +20,7 @@ use Rattle.paper.proofs.honest.Undone.{Undone, weight, weightOf}
 use Rattle.paper.proofs.sheet.Within.{Within, walk-within-held, within-by-walk}
 use Rattle.paper.specs.Bins.{count, rebin}
 use Rattle.paper.specs.Blocks.{Block, State, block, blocks, end, free, held, remainder, total}
-use Rattle.paper.specs.GivingBack.{giveBack, giveBackSmall, heldAt}
+use Rattle.paper.specs.GivingBack.{giveBack, giveBackSmall}
 use Rattle.paper.specs.Governed.{blockWord, sheet, walk}
 use Rattle.paper.specs.Granting.{E}
 use Rattle.paper.specs.Honest.{gives}
@@ -65,7 +65,7 @@ module _ (s : State) (W : WellFormed s) (z x : ℕ) (l : List ℕ) (small : z < 
       let e : x + 4 - 4 ≡ x = omega arith in
       let b : rebin (rebin (s .bins) z l) z (x ∷ rebin (s .bins) z l z) ≡ s .bins =
       ap (λ (k : List ℕ). rebin (rebin (s .bins) z l) z (x ∷ k)) (rebin-same (s .bins) z l) ∙ rebin-back (s .bins) z l (x ∷ l) listed in
-      giveBack-small before (x + 4) (omega (arith, found, parts .1 .0)) (omega (arith, found))
+      giveBack-small before (kept .well-formed) (x + 4) (omega (arith, found, parts .1 .0)) (omega (arith, found))
       ∙ (λ i. giveBackSmall before (e i) (found i))
       ∙ giveBackSmall-is before (kept .well-formed) x z is-held
       ∙ (λ i. record { top = s .top; low = s .low; rest = s .rest; high = sym is i; bins = b i })

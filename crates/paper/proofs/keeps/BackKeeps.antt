@@ -7,17 +7,18 @@ use Prim.Native.Nat.{_%_, _+_, _-_, _<_, _≤_, ℕ}
 use native.Mathlib.Omega.{arith}
 use Rattle.paper.proofs.keeps.BackLargeKeeps.{giveBackLarge-keeps}
 use Rattle.paper.proofs.keeps.BackSmallKeeps.{giveBackSmall-keeps}
-use Rattle.paper.proofs.runs.HeldPlaces.{HeldHigh, HeldLow, held-at-lies, held-large, held-small}
+use Rattle.paper.proofs.runs.HeldPlaces.{HeldHigh, HeldLow, held-at-lies, held-large, held-small, heldAt}
+use Rattle.paper.proofs.runs.LookedUp.{lookUp-held, lookUp-none}
 use Rattle.paper.proofs.keeps.Kept.{Kept, kept-same, sized-high, sized-low}
 use Rattle.paper.proofs.runs.Splitting.{sized-mid-parts}
 use Rattle.paper.specs.declared.Answer.the-variants.{Done, Refused}
 use Rattle.paper.specs.Answers.{not-held}
 use Rattle.paper.specs.Blocks.{State, block, held}
-use Rattle.paper.specs.GivingBack.{giveBack, giveBackLarge, giveBackSmall, heldAt}
+use Rattle.paper.specs.GivingBack.{giveBack, giveBackLarge, giveBackSmall}
 use Rattle.paper.specs.Granting.{Result, refused}
 use Rattle.paper.specs.Layout.{large}
 use Rattle.paper.specs.Sound.{Sized, WellFormed}
-use Rattle.words.specs.Choice.{by<, by=, if<, if<-no, if<-yes, if=-no, if=-yes}
+use Rattle.words.specs.Choice.{by<, by=, if<, if<-no, if<-yes}
 
 -- a held block has a size
 pub held-sized : (s : State) → WellFormed s → (offset : ℕ) → 1 ≤ heldAt s offset → (8 ≤ heldAt s offset) × (heldAt s offset % 8 ≡ 0)
@@ -29,52 +30,52 @@ held-sized s W offset l = go (held-at-lies s W offset l)
 
 -- ---- the ways of a give-back
 
-pub giveBack-none : (s : State) (offset : ℕ) → heldAt s offset ≡ 0 → giveBack s offset ≡ refused not-held s
+pub giveBack-none : (s : State) → WellFormed s → (offset : ℕ) → heldAt s offset ≡ 0 → giveBack s offset ≡ refused not-held s
 unfolding giveBack
-giveBack-none s offset e = if=-yes (heldAt s offset) 0 _ _ e
+giveBack-none s W offset e = lookUp-none offset _ _ s (W .sized) e
 
-pub giveBack-some : (s : State) (offset : ℕ) → heldAt s offset ≢ 0
+pub giveBack-some : (s : State) → WellFormed s → (offset : ℕ) → heldAt s offset ≢ 0
     → giveBack s offset
     ≡ record {
       answer = Done (heldAt s offset - 4);
       state = if< (heldAt s offset) large (giveBackSmall s (offset - 4) (heldAt s offset)) (giveBackLarge s (offset - 4) (heldAt s offset));
     }
 unfolding giveBack
-giveBack-some s offset n = if=-no (heldAt s offset) 0 _ _ n
+giveBack-some s W offset n = lookUp-held offset _ _ s (W .sized) n
 
-pub giveBack-small : (s : State) (offset : ℕ) → 1 ≤ heldAt s offset → heldAt s offset < large
+pub giveBack-small : (s : State) → WellFormed s → (offset : ℕ) → 1 ≤ heldAt s offset → heldAt s offset < large
     → giveBack s offset .state ≡ giveBackSmall s (offset - 4) (heldAt s offset)
-giveBack-small s offset o l = ap (λ (r : Result). r .state) (giveBack-some s offset (omega arith)) ∙ if<-yes (heldAt s offset) large _ _ l
+giveBack-small s W offset o l = ap (λ (r : Result). r .state) (giveBack-some s W offset (omega arith)) ∙ if<-yes (heldAt s offset) large _ _ l
 
-pub giveBack-large : (s : State) (offset : ℕ) → large ≤ heldAt s offset
+pub giveBack-large : (s : State) → WellFormed s → (offset : ℕ) → large ≤ heldAt s offset
     → giveBack s offset .state ≡ giveBackLarge s (offset - 4) (heldAt s offset)
-giveBack-large s offset l = ap (λ (r : Result). r .state) (giveBack-some s offset (omega arith)) ∙ if<-no (heldAt s offset) large _ _ l
+giveBack-large s W offset l = ap (λ (r : Result). r .state) (giveBack-some s W offset (omega arith)) ∙ if<-no (heldAt s offset) large _ _ l
 
 -- ---- what it keeps
 
 pub giveBack-keeps : (s : State) → WellFormed s → (offset : ℕ) → Kept s (giveBack s offset .state)
 giveBack-keeps s W offset =
     by= (heldAt s offset) 0
-    (λ e. subst (λ (r : Result). Kept s (r .state)) (sym (giveBack-none s offset e)) (kept-same s W))
+    (λ e. subst (λ (r : Result). Kept s (r .state)) (sym (giveBack-none s W offset e)) (kept-same s W))
     (λ n. by< (heldAt s offset) large
-    (λ l. subst (Kept s) (sym (giveBack-small s offset (omega arith) l))
+    (λ l. subst (Kept s) (sym (giveBack-small s W offset (omega arith) l))
     (giveBackSmall-keeps s W (offset - 4) (heldAt s offset) (held-small s W offset (omega arith) l)))
-    (λ l. subst (Kept s) (sym (giveBack-large s offset l))
+    (λ l. subst (Kept s) (sym (giveBack-large s W offset l))
     (giveBackLarge-keeps s W (offset - 4) (heldAt s offset) (held-large s W offset l))))
 
 -- ---- what its answer says
 
-pub giveBack-refused : (s : State) (offset k : ℕ) → giveBack s offset .answer ≡ Refused k → (giveBack s offset .state ≡ s) × (heldAt s offset ≡ 0)
-giveBack-refused s offset k a =
-    by= (heldAt s offset) 0 (λ e. (ap (λ (r : Result). r .state) (giveBack-none s offset e), e))
-    (λ n. let d : Done (heldAt s offset - 4) ≡ Refused k = sym (ap (λ (r : Result). r .answer) (giveBack-some s offset n)) ∙ a in
+pub giveBack-refused : (s : State) → WellFormed s → (offset k : ℕ) → giveBack s offset .answer ≡ Refused k → (giveBack s offset .state ≡ s) × (heldAt s offset ≡ 0)
+giveBack-refused s W offset k a =
+    by= (heldAt s offset) 0 (λ e. (ap (λ (r : Result). r .state) (giveBack-none s W offset e), e))
+    (λ n. let d : Done (heldAt s offset - 4) ≡ Refused k = sym (ap (λ (r : Result). r .answer) (giveBack-some s W offset n)) ∙ a in
     absurd (let z : _≡_ {A = ℕ} 0 1 = cc in omega arith))
 
 pub giveBack-done : (s : State) → WellFormed s → (offset v : ℕ) → giveBack s offset .answer ≡ Done v → heldAt s offset ≡ v + 4
 giveBack-done s W offset v a =
     by= (heldAt s offset) 0
-    (λ e. let d : Refused not-held ≡ Done v = sym (ap (λ (r : Result). r .answer) (giveBack-none s offset e)) ∙ a in
+    (λ e. let d : Refused not-held ≡ Done v = sym (ap (λ (r : Result). r .answer) (giveBack-none s W offset e)) ∙ a in
     absurd (let z : _≡_ {A = ℕ} 0 1 = cc in omega arith))
-    (λ n. let d : Done (heldAt s offset - 4) ≡ Done v = sym (ap (λ (r : Result). r .answer) (giveBack-some s offset n)) ∙ a in
+    (λ n. let d : Done (heldAt s offset - 4) ≡ Done v = sym (ap (λ (r : Result). r .answer) (giveBack-some s W offset n)) ∙ a in
     let e : heldAt s offset - 4 ≡ v = cc in
     omega (arith, held-sized s W offset (omega arith)))

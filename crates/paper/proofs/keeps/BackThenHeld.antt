@@ -5,10 +5,10 @@ use mathlib.Core.Logic.{_≢_}
 use mathlib.Core.Path.{_∙_, _≡_, ap, refl, subst, sym}
 use Prim.Native.Nat.{_+_, _-_, _≤_, ℕ}
 use native.Mathlib.Omega.{arith}
-use Rattle.paper.proofs.keeps.BackKeeps.{giveBack-large, giveBack-none, giveBack-small}
+use Rattle.paper.proofs.keeps.BackKeeps.{giveBack-keeps, giveBack-large, giveBack-none, giveBack-small}
 use Rattle.paper.proofs.keeps.BackLargeKeeps.{giveBackLarge-keeps}
 use Rattle.paper.proofs.keeps.BackSmallKeeps.{giveBackSmall-is, giveBackSmall-keeps}
-use Rattle.paper.proofs.runs.HeldPlaces.{HeldHigh, HeldLow, held-large, held-place, held-small}
+use Rattle.paper.proofs.runs.HeldPlaces.{HeldHigh, HeldLow, held-large, held-place, held-small, heldAt}
 use Rattle.paper.proofs.keeps.Kept.{sized-high, sized-low, sized-rest}
 use Rattle.paper.proofs.runs.Neighbours.{Run, gap, gap-none, gap-some, gap-total, run}
 use Rattle.paper.proofs.keeps.Settled.{fewer, giveBackLarge-enters, giveBackLarge-joins, giveBackLarge-touches, intoBin, intoRemainder, joined, joined-total}
@@ -16,7 +16,7 @@ use Rattle.paper.proofs.runs.Splitting.{sized-mid-parts, starts-append,
 use Rattle.paper.specs.Answers.{not-held}
 use Rattle.paper.specs.Bins.{rebin}
 use Rattle.paper.specs.Blocks.{Block, State, block, blocks, free, held, remainder, total}
-use Rattle.paper.specs.GivingBack.{giveBack, giveBackLarge, giveBackSmall, heldAt}
+use Rattle.paper.specs.GivingBack.{giveBack, giveBackLarge, giveBackSmall}
 use Rattle.paper.specs.Granting.{E, R, Result, refused}
 use Rattle.paper.specs.Layout.{blocks-at, large}
 use Rattle.paper.specs.Runs.{heldSize, startsAt}
@@ -156,9 +156,9 @@ pub giveBack-releases : (s : State) → WellFormed s → (offset : ℕ) → 1 �
     → Released s (giveBack s offset .state) (offset - 4) (heldAt s offset)
 giveBack-releases s W offset o =
     by< (heldAt s offset) large
-    (λ l. subst (λ (t : State). Released s t (offset - 4) (heldAt s offset)) (sym (giveBack-small s offset o l))
+    (λ l. subst (λ (t : State). Released s t (offset - 4) (heldAt s offset)) (sym (giveBack-small s W offset o l))
     (small-released s W (offset - 4) (heldAt s offset) (held-small s W offset o l)))
-    (λ l. subst (λ (t : State). Released s t (offset - 4) (heldAt s offset)) (sym (giveBack-large s offset l))
+    (λ l. subst (λ (t : State). Released s t (offset - 4) (heldAt s offset)) (sym (giveBack-large s W offset l))
     (large-released s W (offset - 4) (heldAt s offset) (held-large s W offset l)))
 
 -- the offset is not held afterwards
@@ -166,7 +166,7 @@ pub giveBack-then-none : (s : State) → WellFormed s → (offset : ℕ) → hel
 unfolding Released heldAt
 giveBack-then-none s W offset =
     by= (heldAt s offset) 0
-    (λ e. ap (λ (r : Result). heldAt (r .state) offset) (giveBack-none s offset e) ∙ e)
+    (λ e. ap (λ (r : Result). heldAt (r .state) offset) (giveBack-none s W offset e) ∙ e)
     (λ n. let h = held-place s offset (omega arith) in
     if<-no offset 4 _ _ (h .0)
     ∙ omega (
@@ -181,7 +181,7 @@ pub giveBack-then-others : (s : State) → WellFormed s → (offset o : ℕ) →
 unfolding Released heldAt
 giveBack-then-others s W offset o d =
     by= (heldAt s offset) 0
-    (λ e. ap (λ (r : Result). heldAt (r .state) o) (giveBack-none s offset e))
+    (λ e. ap (λ (r : Result). heldAt (r .state) o) (giveBack-none s W offset e))
     (λ n. by< o 4 (λ l. if<-yes o 4 _ _ l ∙ sym (if<-yes o 4 _ _ l))
     (λ l. if<-no o 4 _ _ l
     ∙ omega (
@@ -194,4 +194,4 @@ giveBack-then-others s W offset o d =
 -- so a second give-back of the offset is refused
 pub giveBack-twice-refused : (s : State) → WellFormed s → (offset : ℕ)
     → giveBack (giveBack s offset .state) offset ≡ refused not-held (giveBack s offset .state)
-giveBack-twice-refused s W offset = giveBack-none (giveBack s offset .state) offset (giveBack-then-none s W offset)
+giveBack-twice-refused s W offset = giveBack-none (giveBack s offset .state) (giveBack-keeps s W offset .well-formed) offset (giveBack-then-none s W offset)

@@ -7,6 +7,7 @@ use Prim.Native.Nat.{_+_, _-_, _<_, _≤_, ℕ}
 use native.Mathlib.Omega.{arith}
 use Rattle.heads.specs.Heads.{blockSize}
 use Rattle.paper.proofs.runs.Asking.{heldAt-in}
+use Rattle.paper.proofs.runs.HeldPlaces.{heldAt}
 use Rattle.paper.proofs.keeps.Kept.{sized-high, sized-low}
 use Rattle.paper.proofs.runs.Places.{first-in-high, in-apart, used-in-low}
 use Rattle.paper.proofs.runs.Replaced.{in-replaced}
@@ -16,7 +17,6 @@ use Rattle.paper.proofs.runs.Walk.{In, flagPast, in-left, in-mid}
 use Rattle.paper.specs.declared.Answer.the-variants.{Done}
 use Rattle.paper.specs.Bins.{first, used}
 use Rattle.paper.specs.Blocks.{Block, State, block, blocks, free, held, remainder, size}
-use Rattle.paper.specs.GivingBack.{heldAt}
 use Rattle.paper.specs.Granting.{E, R, Result, cutHigh, cutLow, granted, pop, refused, smallFrom, smallestBin, take, takeLarge, takePart, takeSmall, takeWhole}
 use Rattle.paper.specs.Runs.{replace, under}
 use Rattle.paper.specs.Sound.{WellFormed}

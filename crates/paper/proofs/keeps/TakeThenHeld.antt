@@ -11,6 +11,7 @@ use Rattle.paper.proofs.keeps.Kept.{sized-high, sized-low}
 use Rattle.paper.proofs.keeps.TakeGrants.{take-held, take-past-head}
 use Rattle.paper.proofs.keeps.TakeKeeps.{blockSize-eights, blockSize-least, take-refused, take-well-formed}
 use Rattle.paper.proofs.keeps.TakeLargeKeeps.{smallestBin-found}
+use Rattle.paper.proofs.runs.HeldPlaces.{heldAt}
 use Rattle.paper.proofs.runs.Places.{first-in-high, used-in-low}
 use Rattle.paper.proofs.runs.Replaced.{replaced-starts, replaced-total}
 use Rattle.paper.proofs.runs.Splitting.{starts-append, starts-cons}
@@ -19,7 +20,6 @@ use Rattle.paper.specs.declared.Answer.{Answer}
 use Rattle.paper.specs.declared.Answer.the-variants.{Done, Refused}
 use Rattle.paper.specs.Bins.{first, used}
 use Rattle.paper.specs.Blocks.{Block, State, block, free, held, total}
-use Rattle.paper.specs.GivingBack.{heldAt}
 use Rattle.paper.specs.Granting.{E, R, Result, cutHigh, cutLow, granted, pop, refused, smallFrom, smallestBin, take, takeLarge, takePart, takeSmall, takeWhole}
 use Rattle.paper.specs.Layout.{blocks-at, large}
 use Rattle.paper.specs.Runs.{heldSize, replace, startsAt}

@@ -9,7 +9,7 @@ use native.Mathlib.Omega.{arith}
 use lib.ListN.{drop, getD, length, take as firsts}
 use Rattle.paper.proofs.keeps.BackKeeps.{held-sized}
 use Rattle.paper.proofs.sheet.Fields.{at-block}
-use Rattle.paper.proofs.runs.HeldPlaces.{held-at-lies, held-place}
+use Rattle.paper.proofs.runs.HeldPlaces.{held-at-lies, held-place, heldAt}
 use Rattle.paper.proofs.runs.HeldWalk.{held-in, held-within}
 use Rattle.paper.proofs.reads.Standing.{sound-stands, stands-sound}
 use Rattle.paper.proofs.reads.Stands.{Stands}
@@ -19,7 +19,6 @@ use Rattle.paper.proofs.sheet.Parts.{part-same, replaced-below, replace
 use Rattle.paper.proofs.sheet.Within.{governed-is-some}
 use Rattle.paper.proofs.sheet.Written.{holds-through, length-write, write-keeps}
 use Rattle.paper.specs.Blocks.{State, block, blocks, end, held}
-use Rattle.paper.specs.GivingBack.{heldAt}
 use Rattle.paper.specs.Governed.{sheet}
 use Rattle.paper.specs.Sheet.{write}
 use Rattle.paper.specs.Sound.{Sized, Sound, WellFormed}

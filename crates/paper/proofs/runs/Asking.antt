@@ -1,15 +1,22 @@
--- Asking finds exactly the held blocks: what starts at a place in the walk, and its size at the offset 4 past it.
+-- Asking finds exactly the held blocks: what starts at a place in the walk, and its size at the offset 4 past it; and a payload that is answered
+-- ends within the pool.
 use mathlib.Core.List.{List, _∷_}
-use mathlib.Core.Path.{_∙_, _≡_, ap, subst}
-use Prim.Native.Nat.{_+_, _-_, ℕ}
+use mathlib.Core.Logic.{_≢_}
+use mathlib.Core.Path.{_∙_, _≡_, ap, subst, sym}
+use Prim.Native.Nat.{_+_, _-_, _≤_, ℕ}
 use native.Mathlib.Omega.{arith}
+use Rattle.paper.proofs.runs.HeldPlaces.{heldAt}
+use Rattle.paper.proofs.runs.HeldWalk.{held-within}
+use Rattle.paper.proofs.runs.LookedUp.{lookUp-held, lookUp-none}
 use Rattle.paper.proofs.runs.Splitting.{in-parts, starts-here}
 use Rattle.paper.proofs.runs.Walk.{In, sized-parts}
-use Rattle.paper.specs.Blocks.{Block, State, block, blocks, held}
-use Rattle.paper.specs.GivingBack.{heldAt}
+use Rattle.paper.specs.Answers.{not-held}
+use Rattle.paper.specs.Blocks.{Block, State, block, blocks, end, held}
+use Rattle.paper.specs.declared.Answer.the-variants.{Done, Refused}
+use Rattle.paper.specs.GivingBack.{ask}
 use Rattle.paper.specs.Runs.{heldSize, startsAt}
-use Rattle.paper.specs.Sound.{Sized}
-use Rattle.words.specs.Choice.{if<-no}
+use Rattle.paper.specs.Sound.{Sized, WellFormed}
+use Rattle.words.specs.Choice.{by=, if<-no}
 
 pub starts-in : (f : Block → ℕ) (xs : List Block) (p P q : ℕ) (b : Block) (P' : ℕ) → Sized xs → In xs p P q b P' → startsAt f xs p q ≡ f b
 starts-in f xs p P q b P' s i =
@@ -22,3 +29,26 @@ unfolding heldAt
 heldAt-in s q z P S i =
     let e : q + 4 - 4 ≡ q = omega arith in
     if<-no (q + 4) 4 _ _ (omega arith) ∙ ap (startsAt heldSize (blocks s) 168) e ∙ starts-in heldSize (blocks s) 168 1 q (block z held) P S i
+
+module _ (s : State) (W : WellFormed s) (offset : ℕ) where
+  ask-none : heldAt s offset ≡ 0 → ask s offset ≡ Refused not-held
+  unfolding ask
+  ask-none e = lookUp-none offset _ _ s (W .sized) e
+
+  ask-held : heldAt s offset ≢ 0 → ask s offset ≡ Done (heldAt s offset - 4)
+  unfolding ask
+  ask-held n = lookUp-held offset _ _ s (W .sized) n
+
+  pub ask-refused : (k : ℕ) → ask s offset ≡ Refused k → heldAt s offset ≡ 0
+  ask-refused k a =
+      by= (heldAt s offset) 0 (λ e. e)
+      (λ n. let d : Done (heldAt s offset - 4) ≡ Refused k = sym (ask-held n) ∙ a in absurd (let y : _≡_ {A = ℕ} 0 1 = cc in omega arith))
+
+  pub ask-done : (v : ℕ) → ask s offset ≡ Done v → (heldAt s offset ≡ v + 4) × (offset + v ≤ end s)
+  ask-done v a =
+      by= (heldAt s offset) 0
+      (λ e. let d : Refused not-held ≡ Done v = sym (ask-none e) ∙ a in absurd (let y : _≡_ {A = ℕ} 0 1 = cc in omega arith))
+      (λ n. let d : Done (heldAt s offset - 4) ≡ Done v = sym (ask-held n) ∙ a in
+      let w : heldAt s offset - 4 ≡ v = cc in
+      let h = held-within s W offset n in
+      (omega arith, omega arith))

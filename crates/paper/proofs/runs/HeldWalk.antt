@@ -4,10 +4,9 @@ use mathlib.Core.Logic.{_≢_, _⊎_, inl, inr}
 use mathlib.Core.Path.{refl, sym}
 use Prim.Native.Nat.{_+_, _-_, _≤_, ℕ}
 use native.Mathlib.Omega.{arith}
-use Rattle.paper.proofs.runs.HeldPlaces.{HeldHigh, HeldLow, held-at-lies, held-place}
+use Rattle.paper.proofs.runs.HeldPlaces.{HeldHigh, HeldLow, held-at-lies, held-place, heldAt}
 use Rattle.paper.proofs.runs.Walk.{In, flagPast, in-high, in-left, in-mid, in-sized}
 use Rattle.paper.specs.Blocks.{State, block, blocks, end, held, remainder}
-use Rattle.paper.specs.GivingBack.{heldAt}
 use Rattle.paper.specs.Sound.{WellFormed}
 
 pub held-in : (s : State) (q z : ℕ) → HeldLow s q z ⊎ HeldHigh s q z → (P : ℕ) × In (blocks s) 168 1 q (block z held) P
