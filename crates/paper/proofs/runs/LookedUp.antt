@@ -1,19 +1,42 @@
--- Looking an offset up, in the words of what starts 4 below it: a block has at least 8 bytes, so the offset is in the block that starts there.
--- And in two runs of blocks, one above the other, an address is looked up in the one that it is in.
+-- Looking up finds every block, at each of its addresses. For an offset, in the words of what starts 4 below it: a block has at least 8 bytes,
+-- so the offset is in the block that starts there. And in two runs of blocks, one above the other, an address is looked up in the one that
+-- it is in.
 use mathlib.Core.List.{List, [], _∷_, _++_}
-use mathlib.Core.Logic.{_≢_}
+use mathlib.Core.Logic.{_≢_, inl, inr}
 use mathlib.Core.Path.{_∙_, _≡_, ap, refl, sym}
 use Prim.Native.Nat.{_+_, _-_, _<_, _≤_, ℕ}
 use native.Mathlib.Omega.{arith}
 use Rattle.paper.proofs.runs.HeldPlaces.{heldAt}
 use Rattle.paper.proofs.runs.Splitting.{starts-below}
+use Rattle.paper.proofs.runs.Walk.{In, in-low}
 use Rattle.paper.specs.Answers.{not-held}
 use Rattle.paper.specs.Blocks.{Block, Kind, State, block, blocks, free, held, remainder, size, total}
 use Rattle.paper.specs.declared.Found.{Found}
+use Rattle.paper.specs.Governed.{flagAbove}
 use Rattle.paper.specs.LookingUp.{blockAt, byOffset, found, lookUp}
 use Rattle.paper.specs.Runs.{heldSize, startsAt}
 use Rattle.paper.specs.Sound.{Sized}
 use Rattle.words.specs.Choice.{by<, by=, if<, if<-no, if<-yes, if=, if=-no, if=-yes}
+
+-- ---- every block is found, at each of its addresses
+
+block-in : (xs : List Block) (p P q z : ℕ) (k : Kind) (P' a : ℕ) → In xs p P q (block z k) P' → q ≤ a → a < q + z → blockAt xs p a ≡ found k q z
+unfolding blockAt
+block-in [] p P q z k P' a h l m = absurd h
+block-in (block y j ∷ xs) p P q z k P' a (inl h) l m =
+    let e : z ≡ y = ap size (h .1) in
+    if<-yes a (p + y) _ _ (omega arith) ∙ (λ i. here (sym (h .1) i) (sym (h .0) i))
+  where
+    here : Block → ℕ → Found
+    here (block y j) p = found j p y
+block-in (block y j ∷ xs) p P q z k P' a (inr h) l m =
+    if<-no a (p + y) _ _ (omega (arith, in-low xs (p + y) (flagAbove (block y j)) q (block z k) P' h))
+    ∙ block-in xs (p + y) (flagAbove (block y j)) q z k P' a h l m
+
+pub lookUp-in : (s : State) (q z : ℕ) (k : Kind) (P a : ℕ) → In (blocks s) 168 1 q (block z k) P → q ≤ a → a < q + z → lookUp s a ≡ found k q z
+unfolding lookUp
+lookUp-in s q z k P a h l m =
+    if<-no a 168 _ _ (omega (arith, in-low (blocks s) 168 1 q (block z k) P h)) ∙ block-in (blocks s) 168 1 q z k P a h l m
 
 -- ---- the held block of an offset
 

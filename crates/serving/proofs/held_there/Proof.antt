@@ -1,8 +1,8 @@
 -- serving::held_there meets its contract, by the block that was found.
 use mathlib.Core.List.{[], _∷_}
-use mathlib.Core.Logic.{inl, inr}
+use mathlib.Core.Logic.{_≢_, inl, inr}
 use mathlib.Core.Path.{_≡_, refl}
-use Prim.Native.Nat.{ℕ}
+use Prim.Native.Nat.{ℕ, _+_}
 use native.Mathlib.Omega.{arith}
 use denote.Enum.Declared.{tagOf}
 use types.Run.{OneOf}
@@ -30,13 +30,20 @@ other Nothing offset k = refl
 returns : tie.Need-returns
 returns c = other _ _ (c .match .keys2)
 
+-- a held block: by where it starts
 returns-2 : tie.Need-returns-2
 unfolding model.heldThere
-returns-2 c = rw (c .before .before .found .given .1, if=-no _ _ _ _ (c .if1 .taken)) (cc)
+returns-2 c =
+    let h = c .before .before .found .given in
+    let n : c .before .before .before .before .args .offset ≢ h .0 .0 + 4 = omega (arith, c .if1 .taken) in
+    rw (h .1, if=-no _ _ _ _ n) (cc)
 
 returns-3 : tie.Need-returns-3
 unfolding model.heldThere
-returns-3 c = rw (c .before .before .found .given .1, if=-yes _ _ _ _ (c .if1 .left)) (cc)
+returns-3 c =
+    let h = c .before .before .found .given in
+    let e : c .before .before .before .before .args .offset ≡ h .0 .0 + 4 = omega (arith, c .if1 .left) in
+    rw (h .1, if=-yes _ _ _ _ e) (cc)
 
 pub held-there-spec : {M : Type 1} → statement M
 held-there-spec =
