@@ -3,8 +3,8 @@
 //!
 //!   second tape                    a tape on standard input, its lines on standard output
 //!   second probe                   probe commands on standard input, a line for each
-//!   second compare --tape "WORDS" --probe "WORDS" [--seed N] [--keep DIR]
-//!                                  holds both programs, each a command line split at spaces,
+//!   second compare --tape "COMMAND" --probe "COMMAND" [--seed N] [--keep DIR]
+//!                                  holds both programs, each a command for a shell,
 //!                                  against this one; failing inputs are kept in DIR
 //!                                  (target/compare); the last line is `N passed, M failed`
 //!   second self [--seed N]         checks of this program by itself, with the same last line
@@ -67,7 +67,7 @@ fn usage(fault: &str) -> ! {
     eprintln!("second: {}", fault);
     eprintln!("usage: second tape | probe | self [--seed N] | count [--seed N]");
     eprintln!("       second work N K | pools [--seed N]");
-    eprintln!("       second compare --tape \"WORDS\" --probe \"WORDS\" [--seed N] [--keep DIR]");
+    eprintln!("       second compare --tape \"COMMAND\" --probe \"COMMAND\" [--seed N] [--keep DIR]");
     exit(2)
 }
 
@@ -121,13 +121,13 @@ fn work(words: &[String]) {
     drop(io::stdout().lock().write_all(&script.input));
 }
 
+/// A shell takes the command apart, so that a path in it may have a space.
 fn command_words(words: &[String], name: &str) -> Vec<String> {
-    let text = option(words, name).unwrap_or("");
-    let command: Vec<String> = text.split_whitespace().map(str::to_string).collect();
-    if command.is_empty() {
-        usage(&format!("compare needs {} \"WORDS\"", name));
+    let text = option(words, name).unwrap_or("").trim();
+    if text.is_empty() {
+        usage(&format!("compare needs {} \"COMMAND\"", name));
     }
-    command
+    ["sh", "-c", &format!("exec {}", text)].map(str::to_string).to_vec()
 }
 
 fn compare_options(words: &[String]) -> compare::Options {

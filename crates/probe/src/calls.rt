@@ -3,40 +3,56 @@ use crate::input;
 use crate::input::Number;
 use crate::output;
 
-// The pool's length after the command, and whether the command could be read.
-pub struct Next {
-    pub going: bool,
-    pub n: usize,
+// How a command ended: its line is written, or it could not be read, or its line is lost.
+pub enum Outcome {
+    Written,
+    Unreadable,
+    Lost,
 }
 
-fn stopped() -> Next {
-    Next { going: false, n: 0 }
+fn ended(written: bool) -> Outcome {
+    if written {
+        Outcome::Written
+    } else {
+        Outcome::Lost
+    }
 }
 
-fn goes_on(n: usize) -> Next {
-    Next { going: true, n }
+// The pool's length after the command, where that went on.
+pub enum Next {
+    On(usize),
+    Unreadable,
+    Lost,
+}
+
+fn goes_on(n: usize, ended: Outcome) -> Next {
+    match ended {
+        Outcome::Written => Next::On(n),
+        Outcome::Unreadable => Next::Unreadable,
+        Outcome::Lost => Next::Lost,
+    }
 }
 
 // I: the pool is these bytes.
 fn image(buffer: &mut [u8]) -> Next {
     let Number::Of(k) = input::next_number() else {
-        return stopped();
+        return Next::Unreadable;
     };
     let n = k as usize;
     if buffer.len() < n {
-        return stopped();
+        return Next::Unreadable;
     }
     if !input::fill(&mut buffer[..n]) {
-        return stopped();
+        return Next::Unreadable;
     }
-    output::text(b"I 0");
-    output::spaced(k);
-    output::text(b"\n");
-    goes_on(n)
+    goes_on(
+        n,
+        ended(output::text(b"I 0") && output::spaced(k) && output::end_of_line()),
+    )
 }
 
 // T, G, A: a call with one number.
-fn with_number(pool: &mut [u8], letter: u8, v: u32) {
+fn with_number(pool: &mut [u8], letter: u8, v: u32) -> bool {
     match letter {
         b'T' => output::line(b"T", pool::take(pool, v)),
         b'G' => output::line(b"G", pool::give_back(pool, v)),
@@ -46,13 +62,14 @@ fn with_number(pool: &mut [u8], letter: u8, v: u32) {
 }
 
 // P: the payload at `offset`, for reading.
-fn read_part(pool: &[u8], offset: u32) {
-    output::text(b"P");
-    output::answer(pool::ask(pool, offset));
+fn read_part(pool: &[u8], offset: u32) -> bool {
+    let answer = pool::ask(pool, offset);
     let part = pool::lend(pool, offset);
-    output::spaced(length_of(part));
-    output::hex(part);
-    output::text(b"\n");
+    output::text(b"P")
+        && output::answer(answer)
+        && output::spaced(length_of(part))
+        && output::hex(part)
+        && output::end_of_line()
 }
 
 fn length_of(part: &[u8]) -> u32 {
@@ -61,31 +78,34 @@ fn length_of(part: &[u8]) -> u32 {
 }
 
 // W: the payload at `offset`, for writing.
-fn write_part(pool: &mut [u8], body: &mut [u8]) -> bool {
+fn write_part(pool: &mut [u8], body: &mut [u8]) -> Outcome {
     let Number::Of(offset) = input::next_number() else {
-        return false;
+        return Outcome::Unreadable;
     };
     let Number::Of(k) = input::next_number() else {
-        return false;
+        return Outcome::Unreadable;
     };
     let size = k as usize;
     if body.len() < size {
-        return false;
+        return Outcome::Unreadable;
     }
     write_from(pool, offset, &mut body[..size])
 }
 
-fn write_from(pool: &mut [u8], offset: u32, body: &mut [u8]) -> bool {
+fn write_from(pool: &mut [u8], offset: u32, body: &mut [u8]) -> Outcome {
     if !input::fill(body) {
-        return false;
+        return Outcome::Unreadable;
     }
-    output::text(b"W");
-    output::answer(pool::ask(pool, offset));
+    let answer = pool::ask(pool, offset);
     let part = pool::lend_mut(pool, offset);
-    output::spaced(length_of(part));
+    let length = length_of(part);
     copy(part, body);
-    output::text(b"\n");
-    true
+    ended(
+        output::text(b"W")
+            && output::answer(answer)
+            && output::spaced(length)
+            && output::end_of_line(),
+    )
 }
 
 // The bytes of `from`, as far as `to` reaches.
@@ -101,60 +121,59 @@ fn copy(to: &mut [u8], from: &[u8]) {
 }
 
 // C: the class count, into k counters that start as 7.
-fn classes(pool: &[u8]) -> bool {
+fn classes(pool: &[u8]) -> Outcome {
     let Number::Of(k) = input::next_number() else {
-        return false;
+        return Outcome::Unreadable;
     };
     if 64 < k {
-        return false;
+        return Outcome::Unreadable;
     }
     let size = k as usize;
     let mut counts = [7u32; 64];
-    count_into(pool, &mut counts[..size]);
-    true
+    ended(count_into(pool, &mut counts[..size]))
 }
 
-fn count_into(pool: &[u8], counts: &mut [u32]) {
-    output::text(b"C");
-    output::answer(pool::class_count(pool, counts));
-    counters(counts);
-    output::text(b"\n");
+fn count_into(pool: &[u8], counts: &mut [u32]) -> bool {
+    let answer = pool::class_count(pool, counts);
+    output::text(b"C") && output::answer(answer) && counters(counts) && output::end_of_line()
 }
 
-fn counters(counts: &[u32]) {
+fn counters(counts: &[u32]) -> bool {
     let mut i = 0;
     while i < counts.len() {
-        output::spaced(counts[i]);
+        if !output::spaced(counts[i]) {
+            return false;
+        }
         i += 1;
     }
+    true
 }
 
 // D: all bytes.
-fn dump(pool: &[u8]) {
-    output::text(b"D 0");
-    output::spaced(length_of(pool));
-    output::hex(pool);
-    output::text(b"\n");
+fn dump(pool: &[u8]) -> bool {
+    output::text(b"D 0")
+        && output::spaced(length_of(pool))
+        && output::hex(pool)
+        && output::end_of_line()
 }
 
-// A command on the pool; whether it could be read.
-fn on_pool(pool: &mut [u8], body: &mut [u8], letter: u8) -> bool {
+// A command on the pool.
+fn on_pool(pool: &mut [u8], body: &mut [u8], letter: u8) -> Outcome {
     match letter {
-        b'L' => output::line(b"L", pool::lay_out(pool)),
-        b'N' => output::line(b"N", pool::inspect(pool)),
-        b'S' => output::tally(pool::figures(pool)),
-        b'D' => dump(pool),
-        b'C' => return classes(pool),
-        b'W' => return write_part(pool, body),
+        b'L' => ended(output::line(b"L", pool::lay_out(pool))),
+        b'N' => ended(output::line(b"N", pool::inspect(pool))),
+        b'S' => ended(output::tally(pool::figures(pool))),
+        b'D' => ended(dump(pool)),
+        b'C' => classes(pool),
+        b'W' => write_part(pool, body),
         b'T' | b'G' | b'A' | b'P' => {
             let Number::Of(v) = input::next_number() else {
-                return false;
+                return Outcome::Unreadable;
             };
-            with_number(pool, letter, v);
+            ended(with_number(pool, letter, v))
         }
-        _ => return false,
+        _ => Outcome::Unreadable,
     }
-    true
 }
 
 pub fn step(buffer: &mut [u8], body: &mut [u8], n: usize, letter: u8) -> Next {
@@ -162,10 +181,7 @@ pub fn step(buffer: &mut [u8], body: &mut [u8], n: usize, letter: u8) -> Next {
         return image(buffer);
     }
     if buffer.len() < n {
-        return stopped();
+        return Next::Unreadable;
     }
-    if on_pool(&mut buffer[..n], body, letter) {
-        return goes_on(n);
-    }
-    stopped()
+    goes_on(n, on_pool(&mut buffer[..n], body, letter))
 }

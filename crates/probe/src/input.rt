@@ -1,5 +1,4 @@
-// What is read from standard input.
-use libc::STDIN_FILENO;
+// What is read from standard input. A reading that failed has been said, and is here as an input that ended.
 
 // The next command's letter, if the input has not ended.
 pub enum Letter {
@@ -9,7 +8,7 @@ pub enum Letter {
 
 pub fn next_letter() -> Letter {
     let mut one = [0u8; 1];
-    let got = io::read_full(STDIN_FILENO, &mut one);
+    let got = streams::read(&mut one);
     if got == 0 {
         return Letter::End;
     }
@@ -24,7 +23,7 @@ pub enum Number {
 
 pub fn next_number() -> Number {
     let mut four = [0u8; 4];
-    let got = io::read_full(STDIN_FILENO, &mut four);
+    let got = streams::read(&mut four);
     if got != 4 {
         return Number::Short;
     }
@@ -37,5 +36,5 @@ pub fn fill(to: &mut [u8]) -> bool {
     if n == 0 {
         return true;
     }
-    io::read_full(STDIN_FILENO, to) == n
+    streams::read(to) == n
 }

@@ -4,6 +4,7 @@ mod calls;
 mod input;
 mod output;
 
+use calls::Next;
 use input::Letter;
 
 // The commands, one after the other; a run of more than 2^64 - 1 of them would end there.
@@ -14,12 +15,14 @@ fn run(buffer: &mut [u8], body: &mut [u8]) {
         let Letter::Is(letter) = input::next_letter() else {
             return;
         };
-        let next = calls::step(buffer, body, n, letter);
-        if !next.going {
-            output::unreadable();
-            return;
+        match calls::step(buffer, body, n, letter) {
+            Next::On(length) => n = length,
+            Next::Unreadable => {
+                output::unreadable();
+                return;
+            }
+            Next::Lost => return,
         }
-        n = next.n;
         left -= 1;
     }
 }

@@ -1,68 +1,64 @@
-// What is written to standard output.
+// What is written to standard output. Each function answers whether all of it was written; where it was not, that has been said.
 ghost use Prim.Native.Nat.{_<_};
-use libc::STDOUT_FILENO;
 use paper::Answer;
 use paper::Figures;
 use paper::Tally;
 
-pub fn text(s: &[u8]) {
-    io::write_all(STDOUT_FILENO, s);
+pub fn text(s: &[u8]) -> bool {
+    streams::write(s)
 }
 
 // A space and a number.
-pub fn spaced(v: u32) {
-    io::write_all(STDOUT_FILENO, b" ");
-    io::print_decimal(STDOUT_FILENO, v as u64);
+pub fn spaced(v: u32) -> bool {
+    if !text(b" ") {
+        return false;
+    }
+    let mut digits = [0u8; 20];
+    let k = io::decimal(v as u64, &mut digits);
+    text(&digits[..k])
 }
 
-pub fn unreadable() {
-    text(b"X 7 0\n");
+pub fn unreadable() -> bool {
+    text(b"X 7 0\n")
+}
+
+pub fn end_of_line() -> bool {
+    text(b"\n")
+}
+
+fn numbers(first: u32, second: u32) -> bool {
+    spaced(first) && spaced(second)
 }
 
 // An answer's number and value.
-pub fn answer(a: Answer) {
+pub fn answer(a: Answer) -> bool {
     match a {
-        Answer::Done(v) => {
-            spaced(0);
-            spaced(v);
-        }
-        Answer::Refused(k) => {
-            spaced(k as u32);
-            spaced(0);
-        }
+        Answer::Done(v) => numbers(0, v),
+        Answer::Refused(k) => numbers(k as u32, 0),
     }
 }
 
 // A whole line of a call.
-pub fn line(letter: &[u8], a: Answer) {
-    text(letter);
-    answer(a);
-    text(b"\n");
+pub fn line(letter: &[u8], a: Answer) -> bool {
+    text(letter) && answer(a) && end_of_line()
 }
 
-fn figures(f: Figures) {
-    spaced(f.held_blocks);
-    spaced(f.held_bytes);
-    spaced(f.free_small);
-    spaced(f.free_large);
-    spaced(f.remainder);
-    spaced(f.free_word);
-    spaced(f.largest);
+fn figures(f: Figures) -> bool {
+    numbers(f.held_blocks, f.held_bytes)
+        && numbers(f.free_small, f.free_large)
+        && numbers(f.remainder, f.free_word)
+        && spaced(f.largest)
 }
 
-pub fn tally(t: Tally) {
-    text(b"S");
+pub fn tally(t: Tally) -> bool {
+    text(b"S") && counted(t) && end_of_line()
+}
+
+fn counted(t: Tally) -> bool {
     match t {
-        Tally::Counted(f) => {
-            spaced(0);
-            figures(f);
-        }
-        Tally::Refused(k) => {
-            spaced(k as u32);
-            spaced(0);
-        }
+        Tally::Counted(f) => spaced(0) && figures(f),
+        Tally::Refused(k) => numbers(k as u32, 0),
     }
-    text(b"\n");
 }
 
 fn digit(v: u8) -> u8 {
@@ -75,15 +71,25 @@ fn digit(v: u8) -> u8 {
     }
 }
 
-// Writes the digits where they fill the buffer; answers how many are left in it.
-fn flushed(digits: &[u8; 4098], used: usize) -> usize
-    ensures { λ r. ⌜ r < 4096 ⌝ }
+// Where the next two digits stand: those that fill the buffer are written first.
+struct Place {
+    written: bool,
+    at: usize,
+}
+
+fn room(digits: &[u8; 4098], used: usize) -> Place
+    ensures { λ r. ⌜ (r .at) < 4096 ⌝ }
 {
     if used < 4096 {
-        return used;
+        return Place {
+            written: true,
+            at: used,
+        };
     }
-    text(digits_of(digits, used));
-    0
+    Place {
+        written: text(digits_of(digits, used)),
+        at: 0,
+    }
 }
 
 fn digits_of(digits: &[u8], used: usize) -> &[u8] {
@@ -95,21 +101,26 @@ fn digits_of(digits: &[u8], used: usize) -> &[u8] {
 }
 
 // Some bytes in lower-case hex, by way of a buffer; `-` where there are none.
-pub fn hex(s: &[u8]) {
-    text(b" ");
+pub fn hex(s: &[u8]) -> bool {
     if s.len() == 0 {
-        text(b"-");
-        return;
+        return text(b" -");
+    }
+    if !text(b" ") {
+        return false;
     }
     let mut digits = [0u8; 4098];
     let mut used: usize = 0;
     let mut i = 0;
     while i < s.len() {
-        let at = flushed(&digits, used);
+        let place = room(&digits, used);
+        if !place.written {
+            return false;
+        }
+        let at = place.at;
         digits[at] = digit(s[i] / 16);
         digits[at + 1] = digit(s[i] % 16);
         used = at + 2;
         i += 1;
     }
-    text(digits_of(&digits, used));
+    text(digits_of(&digits, used))
 }
