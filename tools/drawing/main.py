@@ -13,6 +13,7 @@ USAGE = "usage: tools/map IMAGE [OUT.svg] | tools/map --tape TAPE [OUT.svg]"
 GREATEST_POOL = 65536
 GREATEST_TAPE = 32768
 NO_POOL, NOT_DONE = 1, 2
+STANDARD_OUTPUT = (None, "-", "/dev/stdout", "/dev/fd/1")
 LAY_OUT, TAKE, GIVE_BACK, FIGURES = 1, 2, 3, 4
 
 
@@ -117,7 +118,7 @@ def write_whole(name, text):
 
 
 def put(out, text):
-    if out is not None:
+    if out not in STANDARD_OUTPUT:
         write_whole(out, text)
         return
     try:
@@ -137,7 +138,7 @@ def shown(name):
 
 
 def draw(name, is_tape, out):
-    if out is not None and os.path.exists(out) and os.path.exists(name) and os.path.samefile(out, name):
+    if out not in STANDARD_OUTPUT and os.path.exists(out) and os.path.exists(name) and os.path.samefile(out, name):
         raise Stop(NOT_DONE, f"{out} is the file that is read, and would be lost")
     data = run_tape(name) if is_tape else read_image(name)
     number, figures = verdict(data)
@@ -156,9 +157,9 @@ def draw(name, is_tape, out):
 def main(words):
     is_tape = words[:1] == ["--tape"]
     words = words[1:] if is_tape else words
-    if not 1 <= len(words) <= 2 or "" in words or any(word.startswith("--") for word in words):
+    if not 1 <= len(words) <= 2 or "" in words or any(word.startswith("-") and word != "-" for word in words):
         raise Stop(NOT_DONE, USAGE)
-    draw(words[0], is_tape, words[1] if len(words) == 2 else None)
+    draw("/dev/stdin" if words[0] == "-" else words[0], is_tape, words[1] if len(words) == 2 else None)
 
 
 if __name__ == "__main__":

@@ -1,0 +1,13 @@
+# What every check has: it counts what it asks, names what failed, and its last line is `NAME: N passed, M failed`. To be sourced.
+passed=0 failed=0
+
+ask() { # WHAT STATUS: the status of what was asked
+  if [ "$2" -eq 0 ]; then passed=$((passed + 1)); else failed=$((failed + 1)); echo "failed: $1"; fi
+}
+add() { # PASSED FAILED: those of a program that counts itself
+  passed=$((passed + ${1:-0})) failed=$((failed + ${2:-0}))
+}
+sum() { # NAME
+  echo "$1: $passed passed, $failed failed"
+  [ "$failed" -eq 0 ]
+}
