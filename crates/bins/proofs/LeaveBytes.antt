@@ -1,27 +1,25 @@
--- Leaving a bin on bytes is the paper's: the model's stores are those that fit the sheet of the state without the block.
+-- Leaving a bin on bytes: the model's stores are those that fit the sheet of the state without the block.
 use mathlib.Core.List.{List, [], _++_, _∷_}
 use mathlib.Core.Logic.{_≢_}
 use mathlib.Core.Path.{_∙_, _≡_, ap, refl, subst, sym}
 use Prim.Native.Nat.{_+_, _≤_, ℕ}
 use native.Mathlib.Omega.{arith}
-use lib.ListN.{length}
-use Rattle.bins.proofs.ChainRead.{find-from-false}
+use Rattle.bins.proofs.Between.{Between}
+use Rattle.bins.proofs.ChainRead.{find-found}
 use Rattle.bins.proofs.LinkRead.{chain-read, listed-size-read, member, next-in, previous-in}
-use Rattle.bins.specs.Find.{findBin, linkedAt}
-use Rattle.bins.specs.Leave.{headBin, leave, leaveFirst, leaveLater}
+use Rattle.bins.specs.Find.{find, linkedAt}
+use Rattle.bins.specs.Leave.{headBin, leave, leaveFirst, leaveLater, passOver}
 use Rattle.heads.specs.Links.{linkWord}
 use Rattle.paper.proofs.bins.Bins.{count-append, count-cons, count-here, last-count, lastOr}
-use Rattle.paper.proofs.steps.First.{Pred, first-puts, heir, heir-puts}
-use Rattle.paper.proofs.steps.LeaveStep.{leave-puts, leave-step}
-use Rattle.paper.proofs.steps.Leaving.{back-puts, later-puts, rebinned}
-use Rattle.paper.proofs.bins.Listed.{Loose, start}
-use Rattle.paper.proofs.sheet.Phases.{Step, step-write}
+use Rattle.paper.proofs.bins.Listed.{start}
 use Rattle.paper.proofs.sheet.Stores.{puts}
+use Rattle.paper.proofs.steps.First.{Pred, first-puts, heir, heir-puts}
+use Rattle.paper.proofs.steps.LeaveStep.{leave-puts}
+use Rattle.paper.proofs.steps.Leaving.{back-puts, later-puts}
 use Rattle.paper.specs.Bins.{count, first}
 use Rattle.paper.specs.Blocks.{State, end}
-use Rattle.paper.specs.Governed.{above, height, sheet}
-use Rattle.paper.specs.Layout.{chain-at, false-block, next-at, previous-at}
-use Rattle.paper.specs.Sheet.{Holds, write}
+use Rattle.paper.specs.Governed.{above, height}
+use Rattle.paper.specs.Layout.{chain-at, large, next-at, previous-at}
 use Rattle.words.specs.Choice.{if=-no, if=-yes, ifs}
 use Rattle.words.specs.Words.{putAt}
 
@@ -30,13 +28,16 @@ pub height-one : (s : State) (z : ℕ) → s .top ≡ 1 → height (s .top) z �
 unfolding height
 height-one s z e = omega arith
 
+pub one-level : (s : State) (z y w : ℕ) → s .top ≡ 1 → Pred s z 1 y w → (j : ℕ) → 1 ≤ j → j ≤ height (s .top) z → Pred s z j y w
+one-level s z y w one P j j1 jh = subst (λ (k : ℕ). Pred s z k y w) (omega (arith, height-one s z one)) P
+
 pub link-none : (x : ℕ) → linkWord x 0 ≡ 0
 unfolding linkWord
 link-none x = if=-yes 0 0 _ _ refl
 
-module _ (bs : List ℕ) (s : State) (W : Loose s) (fits : end s ≤ 65536) (l : length bs ≡ end s) (h : Holds (sheet s) bs) (q z : ℕ) (large : 72 ≤ z) where
+module _ (s : State) (bs : List ℕ) (B : Between s bs) (q z : ℕ) (big : large ≤ z) where
   listed-nonzero : (v : ℕ) → 1 ≤ count v (s .bins z) → v ≢ 0
-  listed-nonzero v i = omega (arith, start s W z v i .0)
+  listed-nonzero v i = omega (arith, start s (B .loose) z v i .0)
 
   -- q is not the first: r stands before it
   module _ (u : ℕ) (us vs : List ℕ) (is-in : s .bins z ≡ u ∷ us ++ q ∷ vs) where
@@ -46,17 +47,17 @@ module _ (bs : List ℕ) (s : State) (W : Loose s) (fits : end s ≤ 65536) (l :
     pub leaveLater-stores : (ws : List ℕ) → vs ≡ ws → leaveLater bs (lastOr u us) q ≡ puts (later-puts u us ws) bs
     unfolding leaveLater later-puts back-puts first linkWord
     leaveLater-stores [] e =
-        if=-yes (linkedAt bs q next-at) 0 _ _ (next-in bs s W fits l h q z (u ∷ us) vs large is-in ∙ ap first e)
-        ∙ ap (putAt 4 bs (lastOr u us + 8)) (sym (if=-yes 0 0 _ _ refl))
+        if=-yes (linkedAt bs q next-at) 0 _ _ (next-in s bs B q z (u ∷ us) vs big is-in ∙ ap first e)
+        ∙ ap (putAt 4 bs (lastOr u us + next-at)) (sym (if=-yes 0 0 _ _ refl))
     leaveLater-stores (x ∷ ws) e =
-        let nx : linkedAt bs q next-at ≡ x = next-in bs s W fits l h q z (u ∷ us) vs large is-in ∙ ap first e in
+        let nx : linkedAt bs q next-at ≡ x = next-in s bs B q z (u ∷ us) vs big is-in ∙ ap first e in
         let x-in : 1 ≤ count x (s .bins z) = omega (arith, ap (count x) is-in, count-append x (u ∷ us) (q ∷ vs), count-cons x q vs, ap (count x) e, count-here x ws) in
         let x0 : x ≢ 0 = listed-nonzero x x-in in
         let r0 : lastOr u us ≢ 0 = listed-nonzero (lastOr u us) before-listed in
         rw nx (simp ifs)
 
   -- q is the first, and its bin stands past w on the chain
-  module _ (one : s .top ≡ 1) (vs : List ℕ) (is-in : s .bins z ≡ q ∷ vs) where
+  module _ (vs : List ℕ) (is-in : s .bins z ≡ q ∷ vs) (w : ℕ) where
     is-first : first (s .bins z) ≡ q
     unfolding first
     is-first = ap first is-in
@@ -65,48 +66,39 @@ module _ (bs : List ℕ) (s : State) (W : Loose s) (fits : end s ≤ 65536) (l :
     q-listed = omega (arith, ap (count q) is-in, count-here q vs)
 
     after-is : linkedAt bs q chain-at ≡ above (s .top) (end s) (s .bins) 1 z
-    after-is = chain-read bs s W fits l h q z large is-first (listed-nonzero q q-listed)
+    after-is = chain-read s bs B q z big is-first (listed-nonzero q q-listed)
 
-    pub leaveFirst-stores : (w : ℕ) (ws : List ℕ) → vs ≡ ws → leaveFirst bs w q ≡ puts (first-puts s z (λ j. w) ws) bs
+    pub passOver-stores : passOver bs w q ≡ puts (first-puts s z (λ j. w) []) bs
+    unfolding passOver first-puts heir-puts heir back-puts
+    passOver-stores = rw (height-one s z (B .layout-1)) (ap (λ (k : ℕ). putAt 4 bs (w + chain-at) (linkWord w k)) after-is)
+
+    pub leaveFirst-stores : (ws : List ℕ) → vs ≡ ws → leaveFirst bs w q ≡ puts (first-puts s z (λ j. w) ws) bs
     unfolding leaveFirst headBin first-puts heir-puts heir back-puts first
-    leaveFirst-stores w [] e =
-        rw (height-one s z one)
-        (if=-yes (linkedAt bs q next-at) 0 _ _ (next-in bs s W fits l h q z [] vs large is-in ∙ ap first e)
-        ∙ ap (λ (k : ℕ). putAt 4 bs (w + 64) (linkWord w k)) after-is)
-    leaveFirst-stores w (x ∷ ws) e =
-        let nx : linkedAt bs q next-at ≡ x = next-in bs s W fits l h q z [] vs large is-in ∙ ap first e in
+    leaveFirst-stores [] e =
+        if=-yes (linkedAt bs q next-at) 0 _ _ (next-in s bs B q z [] vs big is-in ∙ ap first e) ∙ passOver-stores
+    leaveFirst-stores (x ∷ ws) e =
+        let nx : linkedAt bs q next-at ≡ x = next-in s bs B q z [] vs big is-in ∙ ap first e in
         let x-in : 1 ≤ count x (s .bins z) = omega (arith, ap (count x) is-in, count-cons x q vs, ap (count x) e, count-here x ws) in
         let x0 : x ≢ 0 = listed-nonzero x x-in in
         let none-word : linkWord x 0 ≡ 0 = link-none x in
-        rw (height-one s z one, none-word, nx, after-is) (simp ifs)
+        rw (height-one s z (B .layout-1), none-word, nx, after-is) (simp ifs)
 
   -- wherever q stands; the one before its bin is what the walk finds
-  module _ (one : s .top ≡ 1) where
-    abbrev pub bin-before : ℕ
-    bin-before = findBin bs chain-at false-block z .before
+  abbrev pub bin-before : ℕ
+  bin-before = find bs z .before
 
-    pub leave-preds : (y : ℕ) × ((j : ℕ) → 1 ≤ j → j ≤ height (s .top) z → Pred s z j y bin-before)
-    leave-preds =
-        let F = find-from-false bs s W fits l h z (omega arith) in
-        (F .y, λ j j1 jh. subst (λ (k : ℕ). Pred s z k (F .y) bin-before) (omega (arith, height-one s z one)) (F .pred))
+  pub leave-preds : (y : ℕ) × ((j : ℕ) → 1 ≤ j → j ≤ height (s .top) z → Pred s z j y bin-before)
+  leave-preds = let F = find-found s bs B z big in (F .y, one-level s z (F .y) bin-before (B .layout-1) (F .pred))
 
-    pub leave-stores : (us vs : List ℕ) → s .bins z ≡ us ++ q ∷ vs → leave bs q ≡ puts (leave-puts s z (λ j. bin-before) us vs) bs
-    unfolding leave lastOr leave-puts
-    leave-stores [] vs is-in =
-        if=-yes (linkedAt bs q previous-at) 0 _ _ (previous-in bs s W fits l h q z [] vs large is-in)
-        ∙ ap (λ (k : ℕ). leaveFirst bs (findBin bs chain-at false-block k .before) q)
-        (listed-size-read bs s W fits l h q z (member bs s W fits l h q z [] vs large is-in))
-        ∙ leaveFirst-stores one vs is-in bin-before vs refl
-    leave-stores (u ∷ us) vs is-in =
-        let r : linkedAt bs q previous-at ≡ lastOr u us = previous-in bs s W fits l h q z (u ∷ us) vs large is-in in
-        let r0 : lastOr u us ≢ 0 = listed-nonzero (lastOr u us) (before-listed u us vs is-in) in
-        if=-no (linkedAt bs q previous-at) 0 _ _ (λ e. r0 (sym r ∙ e))
-        ∙ ap (λ (k : ℕ). leaveLater bs k q) r
-        ∙ leaveLater-stores u us vs is-in vs refl
-
-    pub leave-bytes : (us vs : List ℕ) → s .bins z ≡ us ++ q ∷ vs → leave bs q ≡ write (sheet (rebinned s z (us ++ vs))) bs
-    leave-bytes us vs is-in =
-        leave-stores us vs is-in
-        ∙ step-write (sheet s) (sheet (rebinned s z (us ++ vs))) bs (leave-puts s z (λ j. bin-before) us vs)
-        (subst (λ (n : ℕ). Step n (sheet s) (sheet (rebinned s z (us ++ vs))) (leave-puts s z (λ j. bin-before) us vs)) (sym l)
-        (leave-step s W z q us vs is-in large (λ j. leave-preds .0) (λ j. bin-before) (leave-preds .1))) h
+  pub leave-stores : (us vs : List ℕ) → s .bins z ≡ us ++ q ∷ vs → leave bs q ≡ puts (leave-puts s z (λ j. bin-before) us vs) bs
+  unfolding leave lastOr leave-puts
+  leave-stores [] vs is-in =
+      if=-yes (linkedAt bs q previous-at) 0 _ _ (previous-in s bs B q z [] vs big is-in)
+      ∙ ap (λ (k : ℕ). leaveFirst bs (find bs k .before) q) (listed-size-read s bs B q z (member s bs B q z [] vs big is-in))
+      ∙ leaveFirst-stores vs is-in bin-before vs refl
+  leave-stores (u ∷ us) vs is-in =
+      let r : linkedAt bs q previous-at ≡ lastOr u us = previous-in s bs B q z (u ∷ us) vs big is-in in
+      let r0 : lastOr u us ≢ 0 = listed-nonzero (lastOr u us) (before-listed u us vs is-in) in
+      if=-no (linkedAt bs q previous-at) 0 _ _ (λ e. r0 (sym r ∙ e))
+      ∙ ap (λ (k : ℕ). leaveLater bs k q) r
+      ∙ leaveLater-stores u us vs is-in vs refl

@@ -1,8 +1,11 @@
 pub mod Finding
+pub mod Between
 pub mod LinkRead
 pub mod ChainRead
 pub mod LeaveBytes
+pub mod Left
+pub mod Restored
+pub mod LeftBoth
 pub mod EnterBytes
-pub mod FreeBytes
-pub mod LeaveUsed
 pub mod EnterApart
+pub mod Entered

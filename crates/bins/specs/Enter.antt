@@ -6,9 +6,9 @@ use Rattle.words.specs.Sums.{plus, minus}
 use Rattle.words.specs.Words.{putAt}
 use Rattle.heads.specs.Heads.{freeHead}
 use Rattle.heads.specs.Links.{linkWord}
-use Rattle.bins.specs.declared.chain.Place.{Place}
-use Rattle.paper.specs.Layout.{previous-at, next-at, level-at, chain-at, false-block}
-use Rattle.bins.specs.Find.{sizeAt, linkedAt, findBin}
+use Rattle.bins.specs.declared.chain.Bin.{Bin}
+use Rattle.paper.specs.Layout.{previous-at, next-at, level-at, chain-at}
+use Rattle.bins.specs.Find.{linkedAt, find}
 
 unfoldable pub makeFree : List ℕ → ℕ → ℕ → List ℕ
 makeFree bs q size = putAt 4 (putAt 4 bs q (freeHead size)) (minus (plus q size) 4) (freeHead size)
@@ -31,11 +31,14 @@ enterOnly bs before after q =
     (before + chain-at) (linkWord before q)
 
 -- where the bin stands, or would stand
-unfoldable pub enterAt : List ℕ → Place → ℕ → ℕ → List ℕ
-enterAt bs at q size =
-    if= (at .first) 0
-    (enterOnly bs (at .before) 0 q)
-    (if= (sizeAt bs (at .first)) size (enterSecond bs (at .first) q) (enterOnly bs (at .before) (at .first) q))
+unfoldable pub enterAt : List ℕ → Bin → ℕ → ℕ → List ℕ
+enterAt bs bin q size =
+    if= (bin .first) 0
+    (enterOnly bs (bin .before) 0 q)
+    (if= (bin .size) size (enterSecond bs (bin .first) q) (enterOnly bs (bin .before) (bin .first) q))
+
+unfoldable pub enterBin : List ℕ → ℕ → ℕ → List ℕ
+enterBin bs q size = enterAt bs (find bs size) q size
 
 unfoldable pub enter : List ℕ → ℕ → ℕ → List ℕ
-enter bs q size = enterAt bs (findBin bs chain-at false-block size) q size
+enter bs q size = enterBin (makeFree bs q size) q size

@@ -1,17 +1,15 @@
-// A run of bytes becomes a free large block, and a free large block enters its bin: second place, or first where the bin was empty.
+// A run of bytes becomes a free large block, which enters its bin: second place, or first where the bin was empty.
 ghost use mathlib.Core.Path.{_≡_};
-ghost use Rattle.bins.specs.Enter.{makeFree, enterSecond, enterOnly, enter as enter-of};
+ghost use Rattle.bins.specs.Enter.{makeFree, enterSecond, enterOnly, enterBin, enter as enter-of};
 use crate::chain::find;
 use crate::chain::linked;
-use crate::chain::size_of;
 use paper::CHAIN;
-use paper::FALSE_BLOCK;
 use paper::LEVEL;
 use paper::NEXT;
 use paper::PREVIOUS;
 
 // The head of a free block, at its start and again in its last 4 bytes.
-pub fn make_free(pool: &mut [u8], q: u32, size: u32)
+fn make_free(pool: &mut [u8], q: u32, size: u32)
     ensures { λ _. ⌜ now (pool .exit) ≡ makeFree (now (pool .entry)) q size ⌝ }
 {
     let head = heads::free_head(size);
@@ -48,18 +46,26 @@ fn enter_only(pool: &mut [u8], before: u32, after: u32, q: u32)
     words::put_field(pool, before, CHAIN, heads::link_word(before, q));
 }
 
-// The block q enters the bin of `size`.
+// The free block q enters the bin of its size.
+fn enter_bin(pool: &mut [u8], q: u32, size: u32)
+    ensures { λ _. ⌜ now (pool .exit) ≡ enterBin (now (pool .entry)) q size ⌝ }
+{
+    let bin = find(pool, size);
+    if bin.first == 0 {
+        enter_only(pool, bin.before, 0, q);
+        return;
+    }
+    if bin.size == size {
+        enter_second(pool, bin.first, q);
+        return;
+    }
+    enter_only(pool, bin.before, bin.first, q);
+}
+
+// The bytes from q on are a free block of that size, which enters its bin.
 pub fn enter(pool: &mut [u8], q: u32, size: u32)
     ensures { λ _. ⌜ now (pool .exit) ≡ enter-of (now (pool .entry)) q size ⌝ }
 {
-    let place = find(pool, CHAIN, FALSE_BLOCK, size);
-    if place.first == 0 {
-        enter_only(pool, place.before, 0, q);
-        return;
-    }
-    if size_of(pool, place.first) == size {
-        enter_second(pool, place.first, q);
-        return;
-    }
-    enter_only(pool, place.before, place.first, q);
+    make_free(pool, q, size);
+    enter_bin(pool, q, size);
 }

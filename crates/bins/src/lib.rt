@@ -1,15 +1,16 @@
-// The lists of free large blocks: a bin for each size, the bins' first blocks along the chain.
+// The lists of free large blocks: a bin for each size, the bins' first blocks along the chain. How a bin is found, how blocks leave
+// and enter, and which block of a bin is used, is known here alone.
 // All functions are total: on bytes that are no pool they answer something, and change nothing past the end.
 mod chain;
 mod entering;
 mod leaving;
 
-pub use chain::Place;
+pub use chain::Bin;
 pub use chain::find;
-pub use chain::linked;
-pub use chain::size_of;
+pub use chain::find_on;
+pub use chain::none;
+pub use chain::size;
 pub use entering::enter;
-pub use entering::make_free;
 pub use leaving::leave;
-pub use leaving::leave_first;
-pub use leaving::leave_later;
+pub use leaving::leave_both;
+pub use leaving::take_out;

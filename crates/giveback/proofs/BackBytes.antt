@@ -6,7 +6,7 @@ use Prim.Native.Nat.{_-_, ℕ}
 use native.Mathlib.Omega.{arith}
 use Rattle.giveback.proofs.LargeBytes.{large-bytes}
 use Rattle.giveback.proofs.SmallBytes.{small-bytes}
-use Rattle.giveback.specs.GiveBack.{giveBack}
+use Rattle.giveback.specs.GiveBack.{earned, giveBack, putBack}
 use Rattle.paper.proofs.keeps.BackKeeps.{giveBack-large, giveBack-small}
 use Rattle.paper.proofs.runs.HeldPlaces.{held-large, held-small, heldAt}
 use Rattle.paper.proofs.runs.Neighbours.{run}
@@ -21,13 +21,13 @@ use Rattle.words.specs.Words.{Bytes}
 
 pub back-bytes : (s : State) (bs : List ℕ) → Stands s bs → Bytes bs → (offset : ℕ) → heldAt s offset ≢ 0
     → giveBack bs (offset - 4) (heldAt s offset) ≡ write (sheet (giveBack-state s offset .state)) bs
-unfolding giveBack
+unfolding giveBack putBack
 back-bytes s bs S B offset n =
     by< (heldAt s offset) large
-    (λ l. if<-yes (heldAt s offset) large _ _ l
+    (λ l. ap (λ (k : List ℕ). earned k (heldAt s offset)) (if<-yes (heldAt s offset) large _ _ l)
     ∙ small-bytes s bs S (offset - 4) (heldAt s offset) (held-small s (S .well-formed) offset (omega arith) l)
     ∙ ap (λ (k : State). write (sheet k) bs) (sym (giveBack-small s (S .well-formed) offset (omega arith) l)))
-    (λ l. if<-no (heldAt s offset) large _ _ l
+    (λ l. ap (λ (k : List ℕ). earned k (heldAt s offset)) (if<-no (heldAt s offset) large _ _ l)
     ∙ large-bytes s bs S B (offset - 4) (heldAt s offset)
     (run s (S .well-formed) (offset - 4) (heldAt s offset) (held-large s (S .well-formed) offset l))
     ∙ ap (λ (k : State). write (sheet k) bs) (sym (giveBack-large s (S .well-formed) offset l)))

@@ -1,5 +1,4 @@
-pub mod HeadWords
-pub mod Left
+pub mod Earning
 pub mod Settling
 pub mod RunShape
 pub mod RunReads

@@ -4,16 +4,17 @@ use mathlib.Core.Path.{_∙_, _≡_, ap, refl, subst, sym}
 use Prim.Native.Nat.{_%_, _+_, _-_, _≤_, ℕ}
 use native.Mathlib.Omega.{arith}
 use lib.ListN.{length}
-use Rattle.giveback.proofs.HeadWords.{rest-head}
+use Rattle.bins.proofs.Between.{free-word-read}
+use Rattle.bins.proofs.Left.{Left, grows-same, left-write}
+use Rattle.giveback.proofs.Earning.{earned-is}
 use Rattle.giveback.proofs.IntoRemainder.{rest-end, rest-step, rest-stores}
-use Rattle.giveback.proofs.Left.{Left, grow-same}
 use Rattle.giveback.proofs.RunEnters.{run-gain}
 use Rattle.giveback.proofs.RunLeft.{left-if-held-above}
 use Rattle.giveback.proofs.RunShape.{flag-under}
 use Rattle.giveback.specs.Large.{joinRest, leaveBelow}
-use Rattle.giveback.specs.Small.{earned}
+use Rattle.giveback.specs.GiveBack.{earned}
 use Rattle.paper.proofs.keeps.BackLargeKeeps.{run-keeps}
-use Rattle.paper.proofs.sheet.FreeWordLast.{free-word-reads, past-word}
+use Rattle.paper.proofs.sheet.FreeWordLast.{past-word}
 use Rattle.paper.proofs.keeps.Kept.{Kept, sized-low, sized-rest}
 use Rattle.paper.proofs.steps.Leave.{with-bins}
 use Rattle.paper.proofs.bins.Listed.{Loose, loose}
@@ -21,10 +22,11 @@ use Rattle.paper.proofs.runs.Neighbours.{Run}
 use Rattle.paper.proofs.sheet.Phases.{Step, step-write}
 use Rattle.paper.proofs.keeps.Settled.{fewer, giveBackLarge-settles, intoRemainder, joined, joined-total, run-ends, settle-joins}
 use Rattle.paper.proofs.runs.Splitting.{sized-mid-parts}
+use Rattle.paper.proofs.reads.HeadWords.{freeHead-is}
 use Rattle.paper.proofs.reads.Stands.{Stands}
 use Rattle.paper.proofs.sheet.Stores.{puts}
 use Rattle.paper.proofs.runs.Walk.{freeSum-append, freeSum-le, sized-eight, total-append}
-use Rattle.paper.proofs.sheet.Written.{holds-word, write-over}
+use Rattle.paper.proofs.sheet.Written.{holds-word}
 use Rattle.paper.specs.Blocks.{Block, State, block, blocks, end, freeSum, remainder, total}
 use Rattle.paper.specs.GivingBack.{giveBackLarge, settle as settle-state}
 use Rattle.paper.specs.Governed.{headWord, headerWord, sheet}
@@ -82,7 +84,7 @@ module _ (s : State) (bs : List ℕ) (S : Stands s bs) (q z : ℕ) (r : Run s q 
   parts = sized-mid-parts (r .under) ms [] (subst Sized low-is (sized-low s (S .well-formed)))
 
   long : length cs ≡ end s
-  long = A .long ∙ sym (S .ends)
+  long = A .now .long
 
   step : Step (length cs) (sheet (with-bins s b)) (sheet N) (rest-stores s b (r .under) ms two-parts (flag-under s (S .well-formed) q z r))
   step =
@@ -97,7 +99,7 @@ module _ (s : State) (bs : List ℕ) (S : Stands s bs) (q z : ℕ) (r : Run s q 
 
   end-read : wordAt 4 cs 24 ≡ E s
   unfolding sheet headerWord if< if=
-  end-read = holds-word (sheet (with-bins s b)) cs 24 (E s) (A .holds) refl (omega (arith, long)) (omega (arith, end-near, S .well-formed .fits)) refl
+  end-read = holds-word (sheet (with-bins s b)) cs 24 (E s) (A .now .holds) refl (omega (arith, long)) (omega (arith, end-near, S .well-formed .fits)) refl
 
   free-sum : freeSum (blocks s) ≡ freeSum (r .under) + freeSum ms + (s .rest + freeSum (s .high))
   free-sum = omega (
@@ -118,32 +120,25 @@ module _ (s : State) (bs : List ℕ) (S : Stands s bs) (q z : ℕ) (r : Run s q 
   unfolding joinRest
   made =
       let d : (E s + 4294967296 - start) % 4294967296 ≡ total ms + s .rest = omega (arith, starts-at, low-total, end-near, S .well-formed .fits) in
-      rw (end-read, d, rest-head (total ms + s .rest) (omega (arith, starts-at, low-total, end-near, S .well-formed .fits)))
+      rw (end-read, d, freeHead-is (total ms + s .rest) (omega (arith, starts-at, low-total, end-near, S .well-formed .fits)))
 
-  sum-after : (wordAt 4 put-two 0 + z) % 4294967296 ≡ freeSum (r .under) + (total ms + s .rest + freeSum (s .high)) - 4
-  sum-after =
-      omega (
-        arith,
-        past-word ((16, start) ∷ (start, headWord (total ms + s .rest) remainder 1) ∷ []) cs (omega arith, (omega (arith, starts-at), tt)),
-        free-word-reads cs (with-bins s b) (S .well-formed .fits) long (A .holds),
-        free-sum,
-        run-gain s q z r,
-        freeSum-le (blocks s),
-        sized-rest s (S .well-formed) .0,
-        S .well-formed .fits,
-        starts-at,
-        low-total,
-        end-near,
-      )
+  word-before : wordAt 4 put-two 0 ≡ freeSum (blocks s) - 4
+  word-before =
+      past-word ((16, start) ∷ (start, headWord (total ms + s .rest) remainder 1) ∷ []) cs (omega arith, (omega (arith, starts-at), tt))
+      ∙ free-word-read (with-bins s b) cs (A .now)
+
+  sum-after : freeSum (blocks s) - 4 + z ≡ freeSum (r .under) + (total ms + s .rest + freeSum (s .high)) - 4
+  sum-after = omega (arith, free-sum, run-gain s q z r, sized-rest s (S .well-formed) .0)
 
   pub rest-bytes : earned (joinRest bs start q) z ≡ write (sheet (giveBackLarge s q z)) bs
-  unfolding earned
   rest-bytes =
-      ap (λ (k : List ℕ). putAt 4 k 0 ((wordAt 4 k 0 + z) % 4294967296)) made
+      ap (λ (k : List ℕ). earned k z) made
+      ∙ earned-is put-two z (freeSum (blocks s) - 4) word-before
+      (omega (arith, freeSum-le (blocks s), S .well-formed .fits, run-gain s q z r, starts-at, low-total, end-near))
       ∙ ap (putAt 4 put-two 0) sum-after
       ∙ sym (λ i. puts
       ((16, starts-at i) ∷ (starts-at i, headWord (total ms + s .rest) remainder 1)
       ∷ (0, freeSum (r .under) + (total ms + s .rest + freeSum (s .high)) - 4) ∷ []) cs)
-      ∙ step-write (sheet (with-bins s b)) (sheet N) cs (rest-stores s b (r .under) ms two-parts (flag-under s (S .well-formed) q z r)) step (A .holds)
-      ∙ write-over (sheet N) bs cs (A .long) (λ i l e. A .kept N N-loose refl (λ k. grow-same k b) i l e)
+      ∙ step-write (sheet (with-bins s b)) (sheet N) cs (rest-stores s b (r .under) ms two-parts (flag-under s (S .well-formed) q z r)) step (A .now .holds)
+      ∙ left-write s bs (sym (S .ends)) b cs A N N-loose refl (grows-same b)
       ∙ ap (λ (k : State). write (sheet k) bs) (sym after)

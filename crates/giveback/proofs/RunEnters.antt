@@ -4,12 +4,12 @@ use mathlib.Core.Logic.{_≢_, inl}
 use mathlib.Core.Path.{_∙_, _≡_, ap, refl, subst, sym}
 use Prim.Native.Nat.{_%_, _+_, _-_, _≤_, ℕ}
 use native.Mathlib.Omega.{arith}
-use lib.ListN.{length}
-use Rattle.giveback.proofs.Left.{Left}
+use Rattle.bins.proofs.Between.{Between}
+use Rattle.bins.proofs.Left.{Left, left-write}
 use Rattle.giveback.proofs.RunShape.{flag-run, flag-some, flag-under, up-large}
 use Rattle.giveback.proofs.Settling.{good-above, head-above, settled, step-above, step-quiet}
 use Rattle.giveback.specs.Large.{settle}
-use Rattle.giveback.specs.Small.{earned}
+use Rattle.giveback.specs.GiveBack.{earned}
 use Rattle.paper.proofs.keeps.BackLargeKeeps.{run-keeps}
 use Rattle.paper.proofs.sheet.Fields.{at-head}
 use Rattle.paper.proofs.steps.Join.{joined as joined-state, unjoined}
@@ -22,13 +22,12 @@ use Rattle.paper.proofs.keeps.Settled.{fewer, giveBackLarge-settles, joined, jo
 use Rattle.paper.proofs.runs.Splitting.{sized-mid-parts}
 use Rattle.paper.proofs.reads.Stands.{Stands}
 use Rattle.paper.proofs.runs.Walk.{In, flagPast, freeSum-append, in-left, in-mid, sized-eight}
-use Rattle.paper.proofs.sheet.Written.{write-over}
 use Rattle.paper.specs.Bins.{rebin, enter as enter-list}
-use Rattle.paper.specs.Blocks.{Block, State, block, blocks, end, freeSum, held, remainder, total}
+use Rattle.paper.specs.Blocks.{Block, State, block, blocks, freeSum, held, remainder, total}
 use Rattle.paper.specs.GivingBack.{giveBackLarge, settle as settle-state}
 use Rattle.paper.specs.Governed.{headWord, sheet}
 use Rattle.paper.specs.Granting.{R}
-use Rattle.paper.specs.Sheet.{Holds, write}
+use Rattle.paper.specs.Sheet.{write}
 use Rattle.paper.specs.Sound.{Sized}
 use Rattle.words.specs.Choice.{by=}
 use Rattle.words.specs.Words.{putAt}
@@ -105,24 +104,14 @@ module _ (s : State) (bs : List ℕ) (S : Stands s bs) (q z : ℕ) (r : Run s q 
   px : (168 + total (r .under)) % 8 ≡ 0
   px = omega (arith, sized-eight (r .under) (parts .0))
 
-  same-end : end O ≡ end s
-  same-end = sym (ap end before)
-
   module _ (cs : List ℕ) (A : Left s bs b cs) where
-    O-holds : Holds (sheet O) cs
-    O-holds = subst (λ (k : State). Holds (sheet k) cs) before (A .holds)
-
-    O-long : length cs ≡ end O
-    O-long = A .long ∙ sym (S .ends) ∙ sym same-end
-
-    O-fits : end O ≤ 65536
-    O-fits = omega (arith, same-end, S .well-formed .fits)
+    O-between : Between O cs
+    O-between = subst (λ (k : State). Between k cs) before (A .now)
 
     -- over the old bytes
     old-bytes : write (sheet N) cs ≡ write (sheet (giveBackLarge s q z)) bs
     old-bytes =
-        write-over (sheet N) bs cs (A .long)
-        (λ i m e. A .kept N N-loose refl (λ k. enter-grows k b (total ms) (168 + total (r .under))) i m e)
+        left-write s bs (sym (S .ends)) b cs A N N-loose refl (λ k. enter-grows k b (total ms) (168 + total (r .under)))
         ∙ ap (λ (k : State). write (sheet k) bs) (sym after)
 
     pub enters-below-held : r .up ≡ 0
@@ -130,8 +119,8 @@ module _ (s : State) (bs : List ℕ) (S : Stands s bs) (q z : ℕ) (r : Run s q 
     enters-below-held e =
         let to : 168 + total (r .under) + total ms ≡ q + z = omega (arith, ends-at) in
         sym (λ i. earned (settle (putAt 4 cs (to i) (headWord y held 0)) (starts-at i) (to i)) z)
-        ∙ settled (s .top) (s .rest) (r .under) ms ys (s .high) y b N-loose big (omega arith) pz px (flag-under s (S .well-formed) q z r) (S .layout-1)
-        O-fits cs O-long O-holds z (run-gain s q z r) (sized-rest s (S .well-formed) .0) ((168 + total (r .under) + total ms, headWord y held 0) ∷ [])
+        ∙ settled (s .top) (s .rest) (r .under) ms ys (s .high) y b N-loose big (omega arith) pz px (flag-under s (S .well-formed) q z r)
+        cs O-between z (run-gain s q z r) (sized-rest s (S .well-formed) .0) ((168 + total (r .under) + total ms, headWord y held 0) ∷ [])
         (omega arith, tt)
         (step-above (s .top) (s .rest) (r .under) ms ys (s .high) y b N-loose big (omega arith) pz px (flag-under s (S .well-formed) q z r))
         (good-above (s .top) (s .rest) (r .under) ms ys (s .high) y b N-loose big (omega arith) pz px (flag-under s (S .well-formed) q z r) b')
@@ -148,8 +137,8 @@ module _ (s : State) (bs : List ℕ) (S : Stands s bs) (q z : ℕ) (r : Run s q 
     pub enters-past-free : r .up ≢ 0 → earned (settle cs (q - r .down) (q + z + r .up)) z ≡ write (sheet (giveBackLarge s q z)) bs
     enters-past-free n =
         sym (λ i. earned (settle cs (starts-at i) (ends-at i)) z)
-        ∙ settled (s .top) (s .rest) (r .under) ms ys (s .high) y b N-loose big (omega arith) pz px (flag-under s (S .well-formed) q z r) (S .layout-1)
-        O-fits cs O-long O-holds z (run-gain s q z r) (sized-rest s (S .well-formed) .0) []
+        ∙ settled (s .top) (s .rest) (r .under) ms ys (s .high) y b N-loose big (omega arith) pz px (flag-under s (S .well-formed) q z r)
+        cs O-between z (run-gain s q z r) (sized-rest s (S .well-formed) .0) []
         tt
         (step-quiet (s .top) (s .rest) (r .under) ms ys (s .high) y b N-loose big (omega arith) pz px (flag-under s (S .well-formed) q z r)
         (at-head O (168 + total (r .under) + total ms) y held 0 (O-over n) (omega arith)

@@ -4,18 +4,18 @@ use mathlib.Core.Logic.{_≢_}
 use mathlib.Core.Path.{_∙_, _≡_, ap, refl, sym}
 use Prim.Native.Nat.{_%_, _+_, _-_, _≤_, ℕ}
 use native.Mathlib.Omega.{arith}
-use Rattle.giveback.proofs.HeadWords.{free-size, held-P, held-no-P}
 use Rattle.giveback.proofs.RunShape.{down-large, flag-none, flag-some, in-above, in-below, in-held, in-over}
 use Rattle.giveback.specs.Large.{runStart}
 use Rattle.heads.specs.Heads.{headOf}
+use Rattle.heads.specs.declared.head.Head.{Head}
+use Rattle.paper.proofs.reads.HeadWords.{head-of-word}
 use Rattle.paper.proofs.sheet.Fields.{at-foot}
 use Rattle.paper.proofs.runs.Neighbours.{Run, gap}
-use Rattle.paper.proofs.reads.Readings.{head-reads, low-reads, reads}
+use Rattle.paper.proofs.reads.Readings.{head-reads, reads}
 use Rattle.paper.proofs.reads.Stands.{Stands}
 use Rattle.paper.proofs.runs.Walk.{flagPast, in-aligned, in-high}
 use Rattle.paper.specs.Blocks.{Block, State, block, blocks, free, held}
 use Rattle.paper.specs.Governed.{headWord, sheet}
-use Rattle.paper.specs.Granting.{R}
 use Rattle.words.specs.Choice.{by=, when-no, when-yes}
 use Rattle.words.specs.Words.{wordAt}
 
@@ -23,9 +23,6 @@ module _ (s : State) (bs : List ℕ) (S : Stands s bs) (q z : ℕ) (r : Run s q 
   -- the places of the run are in the pool
   pub near : q + z ≤ 65536
   near = omega (arith, S .well-formed .fits, in-high (blocks s) 168 1 q (block z held) (flagPast 1 (gap (r .down))) (in-held s (S .well-formed) q z r))
-
-  pub start-read : wordAt 4 bs 16 ≡ R s
-  start-read = low-reads bs s (S .well-formed) (sym (S .ends)) (S .holds)
 
   head-read : wordAt 4 bs q ≡ headWord z held (flagPast 1 (gap (r .down)))
   head-read =
@@ -47,13 +44,13 @@ module _ (s : State) (bs : List ℕ) (S : Stands s bs) (q z : ℕ) (r : Run s q 
   run-start =
       by= (r .down) 0
       (λ e. when-yes (headOf (wordAt 4 bs q) .p) _ _
-      (ap (λ (w : ℕ). headOf w .p) (head-read ∙ ap (headWord z held) (flag-none s (S .well-formed) q z r (r .down) e)) ∙ held-P z)
+      (ap (λ (w : ℕ). headOf w .p) (head-read ∙ ap (headWord z held) (flag-none s (S .well-formed) q z r (r .down) e)) ∙ ap (λ (k : Head). k .p) (head-of-word z held 1 (omega arith)))
       ∙ omega arith)
       (λ n. let large = down-large s (S .well-formed) q z r n in
       let a : (q + 4294967296 - 4) % 4294967296 ≡ q - 4 = omega (arith, near, r .starts) in
-      let d : headOf (wordAt 4 bs (q - 4)) .size ≡ r .down = ap (λ (w : ℕ). headOf w .size) (foot-read n) ∙ free-size (r .down) 1 (omega arith) in
+      let d : headOf (wordAt 4 bs (q - 4)) .size ≡ r .down = ap (λ (w : ℕ). headOf w .size) (foot-read n) ∙ ap (λ (k : Head). k .size) (head-of-word (r .down) free 1 (omega arith)) in
       when-no (headOf (wordAt 4 bs q) .p) _ _
-      (ap (λ (w : ℕ). headOf w .p) (head-read ∙ ap (headWord z held) (flag-some s (S .well-formed) q z r (r .down) large)) ∙ held-no-P z)
+      (ap (λ (w : ℕ). headOf w .p) (head-read ∙ ap (headWord z held) (flag-some s (S .well-formed) q z r (r .down) large)) ∙ ap (λ (k : Head). k .p) (head-of-word z held 0 (omega arith)))
       ∙ rw (a, d) (omega (arith, near, r .starts)))
 
   -- the head past the block that comes back

@@ -5,22 +5,24 @@ use mathlib.Core.Logic.{_≢_, inl, inr}
 use mathlib.Core.Option.{some}
 use mathlib.Core.Path.{_∙_, _≡_, ap, refl, subst, sym}
 use Prim.Native.Nat.{_%_, _*_, _+_, _-_, _/_, _<_, _≤_, ℕ}
-use native.Mathlib.Nat.{add-comm}
 use native.Mathlib.Omega.{arith}
-use Rattle.bins.proofs.FreeBytes.{freeHead-is}
-use Rattle.giveback.specs.Small.{earned, giveBackSmall}
+use Rattle.giveback.proofs.Earning.{earned-is}
+use Rattle.giveback.specs.GiveBack.{earned}
+use Rattle.giveback.specs.Small.{giveBackSmall}
 use Rattle.paper.proofs.keeps.BackSmallKeeps.{giveBackSmall-is, giveBackSmall-keeps}
 use Rattle.paper.proofs.steps.Enter.{rebin-back}
 use Rattle.paper.proofs.sheet.Fields.{at-block, at-head}
 use Rattle.paper.proofs.runs.Flags.{flag-append, high-flag}
-use Rattle.paper.proofs.sheet.FreeWordLast.{free-word-reads, past-word}
+use Rattle.paper.proofs.sheet.FreeWordLast.{past-word}
 use Rattle.paper.proofs.runs.HeldPlaces.{HeldHigh}
 use Rattle.paper.proofs.keeps.Kept.{Kept, sized-high, sized-rest}
 use Rattle.paper.proofs.steps.Leave.{NothingNew, nothing-new-trans}
 use Rattle.paper.proofs.steps.Leaving.{rebinned}
 use Rattle.paper.proofs.bins.Listed.{Loose, loose, rebin-same}
 use Rattle.paper.proofs.runs.LowHigh.{high-parts}
-use Rattle.paper.proofs.reads.Readings.{end-big, small-reads}
+use Rattle.paper.proofs.reads.HeadWords.{freeHead-is}
+use Rattle.paper.proofs.reads.HeaderReads.{bin-read, free-read}
+use Rattle.paper.proofs.reads.Readings.{end-big}
 use Rattle.paper.proofs.steps.Segment.{after-same, seg-frame}
 use Rattle.paper.proofs.steps.SmallBins.{small-frame}
 use Rattle.paper.proofs.runs.Splitting.{sized-mid-parts}
@@ -34,7 +36,7 @@ use Rattle.paper.specs.Governed.{headWord, headerWord, sheet, smallWord, walk}
 use Rattle.paper.specs.Sheet.{write}
 use Rattle.paper.specs.Sound.{High, Sized}
 use Rattle.words.specs.Choice.{if<, if<-yes, if=, if=-no, if=-yes, ifs}
-use Rattle.words.specs.Words.{putAt, wordAt}
+use Rattle.words.specs.Words.{wordAt}
 
 module _ (s : State) (bs : List ℕ) (S : Stands s bs) (q z : ℕ) (H : HeldHigh s q z) where
   -- what stands below the block
@@ -171,33 +173,22 @@ module _ (s : State) (bs : List ℕ) (S : Stands s bs) (q z : ℕ) (H : HeldHigh
 
   -- ---- the bytes
 
-  bin-read : wordAt 4 bs (24 + z) ≡ first (s .bins z)
-  bin-read =
-      ap (wordAt 4 bs) (add-comm 24 z)
-      ∙ small-reads bs s (S .well-formed) (sym (S .ends)) (S .holds) z (size-of .0) (H .sized) (size-of .1)
-
-  free-near : freeSum (blocks N) ≤ 65536
-  free-near = omega (arith, freeSum-le (blocks N), same-end, S .well-formed .fits)
-
   abbrev put-three : List ℕ
   put-three = puts ((q, headWord z free 1) ∷ (q + 4, first (s .bins z)) ∷ (24 + z, q) ∷ []) bs
 
-  sum-after : (wordAt 4 put-three 0 + z) % 4294967296 ≡ freeSum (blocks s) - 4 + z
-  sum-after =
-      omega (
-        arith,
-        past-word ((q, headWord z free 1) ∷ (q + 4, first (s .bins z)) ∷ (24 + z, q) ∷ []) bs
-            (omega (arith, starts-at), (omega arith, (omega arith, tt))),
-        free-word-reads bs s (S .well-formed .fits) (sym (S .ends)) (S .holds),
-        free-near,
-        free-sum,
-      )
+  word-before : wordAt 4 put-three 0 ≡ freeSum (blocks s) - 4
+  word-before =
+      past-word ((q, headWord z free 1) ∷ (q + 4, first (s .bins z)) ∷ (24 + z, q) ∷ []) bs (omega (arith, starts-at), (omega arith, (omega arith, tt)))
+      ∙ free-read s bs S
 
-  pub small-bytes : giveBackSmall bs q z ≡ write (sheet (giveBackSmall-state s q z)) bs
-  unfolding giveBackSmall earned
+  made : giveBackSmall bs q z ≡ put-three
+  unfolding giveBackSmall
+  made = rw (freeHead-is z (omega (arith, H .sized)), bin-read s bs S z (size-of .0) (H .sized) (size-of .1))
+
+  pub small-bytes : earned (giveBackSmall bs q z) z ≡ write (sheet (giveBackSmall-state s q z)) bs
   small-bytes =
-      rw (freeHead-is z (omega (arith, H .sized)), bin-read)
-      (ap (putAt 4 put-three 0) sum-after
+      ap (λ (k : List ℕ). earned k z) made
+      ∙ earned-is put-three z (freeSum (blocks s) - 4) word-before (omega (arith, freeSum-le (blocks s), S .well-formed .fits, H .sized))
       ∙ finish (sheet s) (sheet N) bs stores (S .holds) (subst (λ (n : ℕ). Good (sheet N) n stores) (same-end ∙ S .ends) fit)
       (λ a al m o. nothing-new-trans (sheet N a) (sheet loosed a) (sheet s a) (front-frame a al o) (kind-frame a al o))
-      ∙ ap (λ (k : State). write (sheet k) bs) (sym after))
+      ∙ ap (λ (k : State). write (sheet k) bs) (sym after)

@@ -1,7 +1,6 @@
 // A large block is joined with the free large block below and the one above; the run joins the remainder or enters its bin.
 ghost use mathlib.Core.Path.{_≡_};
-ghost use Rattle.giveback.specs.Large.{runStart, leaveBelow, leaveBoth, settle as settle-of, joinRest, joinRun, giveBackLarge};
-use crate::small::earn;
+ghost use Rattle.giveback.specs.Large.{runStart, leaveBelow, settle as settle-of, joinRest, joinRun, giveBackLarge};
 use paper::END;
 use paper::START;
 
@@ -27,30 +26,11 @@ fn leave_below(pool: &mut [u8], start: u32, q: u32)
     bins::leave(pool, start);
 }
 
-// Both neighbours leave. They may stand next to each other in one list, or head neighbouring bins, and then the first to
-// leave stores into the second, whose words are inside the run afterwards: they are kept, and put back.
-fn leave_both(pool: &mut [u8], below: u32, above: u32)
-    ensures { λ _. ⌜ now (pool .exit) ≡ leaveBoth (now (pool .entry)) below above ⌝ }
-{
-    let previous = words::field(pool, above, paper::PREVIOUS);
-    let next = words::field(pool, above, paper::NEXT);
-    let level = words::field(pool, above, paper::LEVEL);
-    let chain = words::field(pool, above, paper::CHAIN);
-    bins::leave(pool, below);
-    bins::leave(pool, above);
-    words::put_field(pool, above, paper::PREVIOUS, previous);
-    words::put_field(pool, above, paper::NEXT, next);
-    words::put_field(pool, above, paper::LEVEL, level);
-    words::put_field(pool, above, paper::CHAIN, chain);
-}
-
 // The bytes from `start` to `end` are one free block, and it enters its bin.
 fn settle(pool: &mut [u8], start: u32, end: u32)
     ensures { λ _. ⌜ now (pool .exit) ≡ settle-of (now (pool .entry)) start end ⌝ }
 {
-    let size = words::minus(end, start);
-    bins::make_free(pool, start, size);
-    bins::enter(pool, start, size);
+    bins::enter(pool, start, words::minus(end, start));
 }
 
 // The run touches the remainder, which then starts where the run starts.
@@ -85,7 +65,7 @@ fn join_run(pool: &mut [u8], start: u32, q: u32, top: u32)
         settle(pool, start, end);
         return;
     }
-    leave_both(pool, start, top);
+    bins::leave_both(pool, start, top);
     settle(pool, start, end);
 }
 
@@ -96,9 +76,7 @@ pub fn give_back_large(pool: &mut [u8], q: u32, z: u32)
     let top = words::plus(q, z);
     if top == words::get32(pool, START) {
         join_rest(pool, start, q);
-        earn(pool, z);
         return;
     }
     join_run(pool, start, q, top);
-    earn(pool, z);
 }

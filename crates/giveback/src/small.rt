@@ -1,16 +1,7 @@
 // A small block is put at the front of its bin.
 ghost use mathlib.Core.Path.{_≡_};
-ghost use Rattle.giveback.specs.Small.{earned, giveBackSmall};
-use paper::FREE_WORD;
+ghost use Rattle.giveback.specs.Small.{giveBackSmall};
 use paper::SMALL_BINS;
-
-// The free word rises by z.
-pub fn earn(pool: &mut [u8], z: u32)
-    ensures { λ _. ⌜ now (pool .exit) ≡ earned (now (pool .entry)) z ⌝ }
-{
-    let free = words::get32(pool, FREE_WORD);
-    words::put32(pool, FREE_WORD, words::plus(free, z));
-}
 
 pub fn give_back_small(pool: &mut [u8], q: u32, z: u32)
     ensures { λ _. ⌜ now (pool .exit) ≡ giveBackSmall (now (pool .entry)) q z ⌝ }
@@ -19,5 +10,4 @@ pub fn give_back_small(pool: &mut [u8], q: u32, z: u32)
     words::put32(pool, q as usize, heads::free_head(z));
     words::put_field(pool, q, paper::SMALL_NEXT, first);
     words::put_field(pool, SMALL_BINS, z, q);
-    earn(pool, z);
 }

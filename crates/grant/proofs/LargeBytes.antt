@@ -1,108 +1,87 @@
--- Taking a large block on bytes is the paper's: the walk along the chain finds the bin that the rule names, and each way is one of the three laws.
+-- Taking a large block on bytes is the paper's: the bin that is found is the one that the rule names, and each way is one of the three laws.
+use mathlib.Core.Bool.{Bool, false, true}
 use mathlib.Core.List.{List}
 use mathlib.Core.Logic.{_≢_}
-use mathlib.Core.Path.{_∙_, _≡_, ap, subst, sym}
-use Prim.Native.Nat.{_%_, _+_, _<_, _≤_, ℕ}
+use mathlib.Core.Path.{_∙_, _≡_, ap, refl, subst, sym}
+use Prim.Native.Nat.{_%_, _+_, _≤_, ℕ}
 use native.Mathlib.Omega.{arith}
-use Rattle.bins.proofs.ChainRead.{Found, OnChain, find-found, find-from-false, found-no-smallest, found-none, found-smallest, found-some}
-use Rattle.bins.proofs.LinkRead.{listed-size-read}
-use Rattle.bins.specs.Find.{findBin, sizeAt}
-use Rattle.bins.specs.declared.chain.Place.{Place}
+use Rattle.bins.proofs.Between.{Between, stands-between}
+use Rattle.bins.proofs.ChainRead.{Found, find-found, find-on-found, found-none, found-size, found-some}
+use Rattle.bins.specs.Find.{find, findOn, none, size}
+use Rattle.bins.specs.declared.chain.Bin.{Bin}
 use Rattle.grant.proofs.Chosen.{takePart-kept}
-use Rattle.grant.proofs.LowBytes.{cutLow-bytes}
+use Rattle.grant.proofs.LowBytes.{cut-low-bytes}
 use Rattle.grant.proofs.PartBytes.{takePart-bytes}
 use Rattle.grant.proofs.WholeBytes.{takeWhole-bytes}
-use Rattle.grant.specs.Large.{takeLarger, cutLow as cutLow-model, takeLarge as takeLarge-model, takePart as takePart-model, takeWhole as takeWhole-model}
-use Rattle.paper.proofs.bins.Bins.{first-count}
-use Rattle.paper.proofs.steps.First.{Pred, reach-at}
-use Rattle.paper.proofs.keeps.Kept.{Kept}
-use Rattle.paper.proofs.bins.Listed.{Loose, loose}
-use Rattle.paper.proofs.reads.LooseReads.{height-pos}
+use Rattle.grant.specs.Large.{takeLarger, cut as cut-model, takeLarge as takeLarge-model, takePart as takePart-model, takeWhole as takeWhole-model}
+use Rattle.paper.proofs.bins.Smallest.{none-smallest, smallest-exact, smallest-found, smallest-none}
 use Rattle.paper.proofs.reads.Stands.{Stands}
 use Rattle.paper.specs.Bins.{first}
-use Rattle.paper.specs.Blocks.{State, end}
+use Rattle.paper.specs.Blocks.{State}
 use Rattle.paper.specs.Calls.{leaves}
-use Rattle.paper.specs.Granting.{Result, cutLow, smallestBin, takeLarge, takePart, takeWhole}
-use Rattle.paper.specs.Layout.{chain-at, false-block}
-use Rattle.words.specs.Choice.{by<, by=, if=, if=-no, if=-yes}
+use Rattle.paper.specs.Granting.{Result, cutLow, smallestBin, takeLarge, takePart}
+use Rattle.paper.specs.Layout.{large}
+use Rattle.words.specs.Choice.{by=, if=, if=-no, if=-yes, when, when-no, when-yes}
 use Rattle.words.specs.Sums.{plus}
 
--- what stands before a place of a size stands before the bin that is found there
-pub found-pred : (s : State) (W : Loose s) (size : ℕ) (at : Place) (F : Found s size at) (z : ℕ) → size ≤ z
-    → ((u : ℕ) → size ≤ u → u < z → first (s .bins u) ≡ 0) → Pred s z 1 (F .y) (at .before)
-found-pred s W size at F z l none =
-    record {
-      below = omega (arith, F .pred .below);
-      gap = λ u a b. by< u size (λ m. F .pred .gap u a m) (λ m. reach-at (s .top) (end s) (s .bins) 1 u (height-pos s W u) ∙ none u m b);
-      who = F .pred .who;
-    }
+-- by a flag
+by-flag : {A : Type 0} (t : Bool) → (t ≡ true → A) → (t ≡ false → A) → A
+by-flag true f g = f refl
+by-flag false f g = g refl
 
-module _ (s : State) (bs : List ℕ) (S : Stands s bs) (b : ℕ) (large : 72 ≤ b) (eights : b % 8 ≡ 0) (near : b ≤ 65536) where
+module _ (s : State) (bs : List ℕ) (S : Stands s bs) (b : ℕ) (b-large : large ≤ b) (eights : b % 8 ≡ 0) (near : b ≤ 65536) where
+  B : Between s bs
+  B = stands-between s bs S
+
   -- no bin of exactly b
-  module _ (none : first (s .bins b) ≡ 0) where
+  module _ (no-exact : first (s .bins b) ≡ 0) where
     abbrev larger-way : Result
-    larger-way = if= (smallestBin s (b + 72)) 0 (cutLow s b) (takePart s (smallestBin s (b + 72)) b)
+    larger-way = if= (smallestBin s (b + large)) 0 (cutLow s b) (takePart s (smallestBin s (b + large)) b)
 
-    larger-at : (at : Place) → Found s (b + 72) at → if= (at .first) 0 (cutLow-model bs b) (takePart-model bs at b) ≡ leaves larger-way bs
-    larger-at at F =
-        by= (at .first) 0
-        (λ e. if=-yes (at .first) 0 _ _ e ∙ cutLow-bytes s bs S b (omega arith) eights
-        ∙ ap (λ (r : Result). leaves r bs) (sym (if=-yes (smallestBin s (b + 72)) 0 _ _ (found-no-smallest s W (b + 72) at F e (b + 72) (omega arith)))))
-        (λ n. let m = found-some s W (b + 72) at F n in
-        let is : smallestBin s (b + 72) ≡ m .0 = found-smallest s W (b + 72) at F (m .0) n (m .2) (omega arith) in
-        let n' : smallestBin s (b + 72) ≢ 0 = (λ o. omega (arith, sym is ∙ o, m .1)) in
-        if=-no (at .first) 0 _ _ n
-        ∙ takePart-bytes s bs S b large eights (m .0) (m .1) (λ o. n (sym (m .2) ∙ o))
-        (subst (λ (k : ℕ). Kept s (takePart s k b .state)) is (takePart-kept s (S .well-formed) b large eights none n')) at (sym (m .2))
-        (F .y) (found-pred s W (b + 72) at F (m .0) (m .1) (m .3))
-        ∙ ap (λ (k : ℕ). leaves (takePart s k b) bs) (sym is)
-        ∙ ap (λ (r : Result). leaves r bs) (sym (if=-no (smallestBin s (b + 72)) 0 _ _ n')))
-      where
-        W : Loose s
-        W = loose s (S .well-formed)
+    larger-at : (bin : Bin) → Found s (b + large) bin → when (none bin) (cut-model bs b) (takePart-model bs bin b) ≡ leaves larger-way bs
+    larger-at bin F =
+        by-flag (none bin)
+        (λ t. when-yes (none bin) _ _ t ∙ cut-low-bytes s bs S b (omega arith) eights
+        ∙ ap (λ (r : Result). leaves r bs) (sym (if=-yes (smallestBin s (b + large)) 0 _ _ (found-none s (B .loose) (b + large) (omega arith) bin F t))))
+        (λ t. let n : smallestBin s (b + large) ≢ 0 = found-some s (B .loose) (b + large) (omega arith) bin F t in
+        let f = smallest-found s (b + large) n in
+        when-no (none bin) _ _ t
+        ∙ takePart-bytes s bs S b b-large eights (smallestBin s (b + large)) (f .0) (f .1) (takePart-kept s (S .well-formed) b b-large eights no-exact n)
+        bin F refl
+        ∙ ap (λ (r : Result). leaves r bs) (sym (if=-no (smallestBin s (b + large)) 0 _ _ n)))
 
-    pub takeLarger-bytes : (y before : ℕ) → OnChain s y before → y < b → takeLarger bs before b ≡ leaves larger-way bs
+    takeLarger-bytes : (exact : Bin) → Found s b exact → takeLarger bs exact b ≡ leaves larger-way bs
     unfolding takeLarger
-    takeLarger-bytes y before who lt =
-        let p : plus b 72 ≡ b + 72 = omega arith in
-        ap (λ (k : ℕ). if= (findBin bs chain-at before k .first) 0 (cutLow-model bs b) (takePart-model bs (findBin bs chain-at before k) b)) p
-        ∙ larger-at (findBin bs chain-at before (b + 72))
-        (find-found bs s (loose s (S .well-formed)) (S .well-formed .fits) (sym (S .ends)) (S .holds) (b + 72) y before who (omega arith))
+    takeLarger-bytes exact F =
+        let p : plus b large ≡ b + large = omega arith in
+        ap (λ (k : ℕ). when (none (findOn bs exact k)) (cut-model bs b) (takePart-model bs (findOn bs exact k) b)) p
+        ∙ larger-at (findOn bs exact (b + large)) (find-on-found s bs B (b + large) b exact F (omega arith))
 
-  large-at : (at : Place) → Found s b at
-      → if= (at .first) 0 (cutLow-model bs b) (if= (sizeAt bs (at .first)) b (takeWhole-model bs at b) (takeLarger bs (at .before) b))
-      ≡ leaves (takeLarge s b) bs
+    -- the paper's way, where the exact bin is empty
+    not-exact : leaves larger-way bs ≡ leaves (takeLarge s b) bs
+    unfolding takeLarge
+    not-exact = ap (λ (r : Result). leaves r bs) (sym (if=-yes (first (s .bins b)) 0 _ _ no-exact))
+
+  large-at : (exact : Bin) → Found s b exact
+      → when (none exact) (cut-model bs b) (if= (size exact) b (takeWhole-model bs exact b) (takeLarger bs exact b)) ≡ leaves (takeLarge s b) bs
   unfolding takeLarge
-  large-at at F =
-      by= (at .first) 0
-      (λ e. let none : first (s .bins b) ≡ 0 = found-none s W b at F e b (omega arith) in
-      if=-yes (at .first) 0 _ _ e ∙ cutLow-bytes s bs S b (omega arith) eights
-      ∙ ap (λ (r : Result). leaves r bs) (sym (if=-yes (smallestBin s (b + 72)) 0 _ _ (found-no-smallest s W b at F e (b + 72) (omega arith))))
-      ∙ no-exact none)
-      (λ n. let m = found-some s W b at F n in
-      let sz : sizeAt bs (at .first) ≡ m .0 =
-      listed-size-read bs s W (S .well-formed .fits) (sym (S .ends)) (S .holds) (at .first) (m .0) (first-count (s .bins (m .0)) (at .first) (m .2) n) in
-      if=-no (at .first) 0 _ _ n
-      ∙ by= (m .0) b
-      (λ e. let f : at .first ≡ first (s .bins b) = sym (m .2) ∙ ap (λ (k : ℕ). first (s .bins k)) e in
-      let n' : first (s .bins b) ≢ 0 = (λ o. n (f ∙ o)) in
-      if=-yes (sizeAt bs (at .first)) b _ _ (sz ∙ e)
-      ∙ takeWhole-bytes s bs S b large eights n' at f (F .y) (F .pred)
-      ∙ ap (λ (r : Result). leaves r bs) (sym (if=-no (first (s .bins b)) 0 _ _ n')))
-      (λ d. let none : first (s .bins b) ≡ 0 = m .3 b (omega arith) (omega (arith, m .1)) in
-      if=-no (sizeAt bs (at .first)) b _ _ (λ o. d (sym sz ∙ o))
-      ∙ takeLarger-bytes none (F .y) (at .before) (F .pred .who) (F .pred .below) ∙ no-exact none))
-    where
-      W : Loose s
-      W = loose s (S .well-formed)
-
-      no-exact : (none : first (s .bins b) ≡ 0)
-          → leaves (if= (smallestBin s (b + 72)) 0 (cutLow s b) (takePart s (smallestBin s (b + 72)) b)) bs
-          ≡ leaves (if= (first (s .bins b)) 0 (if= (smallestBin s (b + 72)) 0 (cutLow s b) (takePart s (smallestBin s (b + 72)) b)) (takeWhole s b)) bs
-      no-exact none = ap (λ (r : Result). leaves r bs) (sym (if=-yes (first (s .bins b)) 0 _ _ none))
+  large-at exact F =
+      by-flag (none exact)
+      (λ t. let all = none-smallest s b (B .loose) (omega arith) (found-none s (B .loose) b b-large exact F t) in
+      let none-larger : smallestBin s (b + large) ≡ 0 = smallest-none s (b + large) (λ u l. all u (omega arith)) in
+      when-yes (none exact) _ _ t ∙ cut-low-bytes s bs S b (omega arith) eights
+      ∙ ap (λ (r : Result). leaves r bs) (sym (if=-yes (smallestBin s (b + large)) 0 _ _ none-larger))
+      ∙ not-exact (all b (omega arith)))
+      (λ t. when-no (none exact) _ _ t
+      ∙ by= (size exact) b
+      (λ e. let z : smallestBin s b ≡ b = sym (found-size s (B .loose) b b-large exact F) ∙ e in
+      let n : first (s .bins b) ≢ 0 = subst (λ (k : ℕ). first (s .bins k) ≢ 0) z (smallest-found s b (λ o. omega (arith, sym z ∙ o)) .1) in
+      if=-yes (size exact) b _ _ e ∙ takeWhole-bytes s bs S b b-large eights n exact F z
+      ∙ ap (λ (r : Result). leaves r bs) (sym (if=-no (first (s .bins b)) 0 _ _ n)))
+      (λ d. let o : first (s .bins b) ≡ 0 =
+      by= (first (s .bins b)) 0 (λ e. e) (λ n. absurd (d (found-size s (B .loose) b b-large exact F ∙ smallest-exact s b (B .loose) (omega arith) n))) in
+      if=-no (size exact) b _ _ d ∙ takeLarger-bytes o exact F ∙ not-exact o))
 
   pub takeLarge-bytes : takeLarge-model bs b ≡ leaves (takeLarge s b) bs
   unfolding takeLarge-model
-  takeLarge-bytes =
-      large-at (findBin bs chain-at false-block b)
-      (find-from-false bs s (loose s (S .well-formed)) (S .well-formed .fits) (sym (S .ends)) (S .holds) b (omega arith))
+  takeLarge-bytes = large-at (find bs b) (find-found s bs B b b-large)

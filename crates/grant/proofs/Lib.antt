@@ -1,13 +1,10 @@
-pub mod HeaderReads
-pub mod HeadWords
+pub mod RestRead
 pub mod Spending
-pub mod Phasing
 pub mod Popping
 pub mod SmallBytes
 pub mod CuttingLow
 pub mod LowBytes
 pub mod Chosen
-pub mod LeavingUsed
 pub mod WholeBytes
 pub mod Parting
 pub mod PartBytes

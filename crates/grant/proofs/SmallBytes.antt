@@ -1,19 +1,22 @@
 -- Taking a small block on bytes is the paper's: the model's stores are those of popping and of cutting, and the free word falls first or last.
 use mathlib.Core.List.{List, [], _∷_}
 use mathlib.Core.Option.{some}
-use mathlib.Core.Path.{_∙_, _≡_, ap, refl, subst, sym}
+use mathlib.Core.Path.{_∙_, _≡_, ap, refl, sym}
 use Prim.Native.Nat.{_%_, _+_, _-_, _<_, _≤_, ℕ}
 use native.Mathlib.Omega.{arith}
-use Rattle.grant.proofs.HeadWords.{freeHead-is, heldHead-is}
-use Rattle.grant.proofs.HeaderReads.{bin-read, end-near, end-read, free-near, free-read, rest-read, start-read}
 use Rattle.grant.proofs.Popping.{pop-place, pop-puts, pop-room, pop-written}
-use Rattle.grant.proofs.Spending.{spent-stores}
-use Rattle.grant.specs.Small.{cutAt, payload, restOf, spent, cutHigh as cutHigh-model, pop as pop-model, takeSmall as takeSmall-model}
-use Rattle.heads.specs.Heads.{freeHead}
+use Rattle.grant.proofs.RestRead.{rest-read, restIs}
+use Rattle.grant.proofs.Spending.{granted-leaves, spent-stores}
+use Rattle.grant.specs.Granted.{spent, granted as granted-model}
+use Rattle.grant.specs.Small.{cut as cut-model, cutHigh as cutHigh-model, pop as pop-model, takeSmall as takeSmall-model}
+use Rattle.grant.specs.declared.remainder.Rest.{Rest}
+use Rattle.heads.specs.Heads.{freeHead, heldHead}
 use Rattle.paper.proofs.bins.Bins.{count-here}
 use Rattle.paper.proofs.steps.Cut.{cut, cut-puts, take-cut}
 use Rattle.paper.proofs.runs.Flags.{low-flag}
 use Rattle.paper.proofs.keeps.Kept.{sized-low, sized-rest}
+use Rattle.paper.proofs.reads.HeadWords.{freeHead-is, heldHead-is}
+use Rattle.paper.proofs.reads.HeaderReads.{bin-read, end-near, free-near, free-read}
 use Rattle.paper.proofs.reads.Readings.{next-reads}
 use Rattle.paper.proofs.reads.Stands.{Stands}
 use Rattle.paper.proofs.sheet.Stores.{puts}
@@ -23,11 +26,11 @@ use Rattle.paper.specs.Bins.{count, first, nextIn}
 use Rattle.paper.specs.Blocks.{State, block, blocks, freeSum, held, remainder}
 use Rattle.paper.specs.Calls.{leaves}
 use Rattle.paper.specs.Governed.{headWord, sheet}
-use Rattle.paper.specs.Granting.{E, R, Result, cutHigh, pop, smallFrom, takeSmall}
-use Rattle.paper.specs.Layout.{end-at, small-bins}
+use Rattle.paper.specs.Granting.{E, R, Result, cutHigh, granted, pop, smallFrom, takeSmall}
+use Rattle.paper.specs.Layout.{end-at, free-word-at, small-bins}
 use Rattle.paper.specs.Sheet.{Holds, write}
-use Rattle.paper.specs.declared.Answer.the-variants.{Done, Refused}
-use Rattle.words.specs.Choice.{by<, if<-no, if<-yes, if=-no, if=-yes}
+use Rattle.paper.specs.declared.Answer.the-variants.{Refused}
+use Rattle.words.specs.Choice.{by<, if<, if<-no, if<-yes, if=-no, if=-yes}
 use Rattle.words.specs.Sums.{minus}
 use Rattle.words.specs.Words.{wordAt}
 
@@ -42,7 +45,7 @@ module _ (s : State) (bs : List ℕ) (S : Stands s bs) (b : ℕ) (least : 8 ≤ 
         let v : first l ≡ m .0 = cc in
         m .4 (omega arith) ∙ sym v
 
-    pub pop-bytes : pop-model bs b q ≡ write (sheet (pop s b q l .state)) bs
+    pub pop-bytes : spent (pop-model bs b q) b ≡ write (sheet (pop s b q l .state)) bs
     unfolding pop-model pop-puts
     pop-bytes =
         (λ i. spent (puts ((24 + b, next-word i) ∷ (q, heldHead-is b (omega arith) i) ∷ []) bs) b)
@@ -51,64 +54,60 @@ module _ (s : State) (bs : List ℕ) (S : Stands s bs) (b : ℕ) (least : 8 ≤ 
         (omega (arith, free-near s bs S)) (omega (arith, pop-room s (S .well-formed) b small least eights q l is-in))
         ∙ pop-written s (S .well-formed) b small least eights q l is-in bs (sym (S .ends)) (S .holds)
 
-    pop-answer : payload q ≡ q + 4
-    pop-answer = omega (arith, pop-place s (S .well-formed) b small least eights q l is-in, S .well-formed .fits)
-
   -- ---- the remainder's high end
   module _ (room : b + 8 ≤ s .rest) where
-    place : minus (wordAt 4 bs end-at) b ≡ R s + s .rest - b
-    place = omega (arith, end-read s bs S, end-near s bs S)
+    place : minus (E s) b ≡ E s - b
+    place = omega (arith, end-near s bs S)
 
-    rest-head : freeHead (minus (restOf bs) b) ≡ headWord (s .rest - b) remainder (flagPast 1 (s .low))
+    rest-head : freeHead (minus (s .rest) b) ≡ headWord (s .rest - b) remainder (flagPast 1 (s .low))
     rest-head =
-        let e : minus (restOf bs) b ≡ s .rest - b = omega (arith, rest-read s bs S, end-near s bs S) in
+        let e : minus (s .rest) b ≡ s .rest - b = omega (arith, end-near s bs S) in
         ap freeHead e ∙ freeHead-is (s .rest - b) (omega (arith, end-near s bs S))
         ∙ ap (headWord (s .rest - b) remainder) (sym (low-flag (s .low) (S .well-formed .low-ok)))
 
-    free-room : b + 8 ≤ freeSum (blocks s)
-    free-room = omega (arith, freeSum-append (s .low) (block (s .rest) remainder ∷ s .high))
-
-    same-place : R s + s .rest - b ≡ R s + (s .rest - b)
+    same-place : E s - b ≡ R s + (s .rest - b)
     same-place = omega arith
 
     abbrev cut-rest : List (ℕ × ℕ)
     cut-rest =
-        (24, R s + s .rest - b) ∷ (R s, headWord (s .rest - b) remainder (flagPast 1 (s .low))) ∷ (R s + (s .rest - b), headWord b held 1) ∷ []
+        (end-at, E s - b) ∷ (R s, headWord (s .rest - b) remainder (flagPast 1 (s .low))) ∷ (R s + (s .rest - b), headWord b held 1) ∷ []
 
-    pub cut-bytes : cutAt bs b (minus (wordAt 4 bs end-at) b) ≡ write (sheet (cut s b least room)) bs
-    unfolding cutAt cut-puts
+    cut-bytes : spent (puts ((end-at, E s - b) ∷ (R s, freeHead (minus (s .rest) b)) ∷ (E s - b, heldHead b) ∷ []) bs) b ≡ write (sheet (cut s b least room)) bs
+    unfolding cut-puts
     cut-bytes =
         let al : R s % 8 ≡ 0 = omega (arith, sized-eight (s .low) (sized-low s (S .well-formed))) in
         let r = sized-rest s (S .well-formed) in
         let f : freeSum (blocks s) - 4 - b ≡ freeSum (blocks s) - b - 4 = omega arith in
-        (λ i. spent (puts ((24, place i) ∷ (start-read s bs S i, rest-head i) ∷ ((place ∙ same-place) i, heldHead-is b (omega arith) i) ∷ []) bs) b)
+        (λ i. spent (puts ((end-at, E s - b) ∷ (R s, rest-head i) ∷ (same-place i, heldHead-is b (omega arith) i) ∷ []) bs) b)
         ∙ spent-stores cut-rest bs b (freeSum (blocks s) - 4) (omega arith, (omega arith, (omega arith, tt))) (free-read s bs S)
-        (omega (arith, free-near s bs S)) (omega (arith, free-room))
-        ∙ ap (λ (k : ℕ). puts ((0, k) ∷ cut-rest) bs) f
+        (omega (arith, free-near s bs S)) (omega (arith, freeSum-append (s .low) (block (s .rest) remainder ∷ s .high)))
+        ∙ ap (λ (k : ℕ). puts ((free-word-at, k) ∷ cut-rest) bs) f
         ∙ take-cut s b least room (omega arith) (omega arith) (omega arith) bs (sym (S .ends)) (S .holds)
 
-    cut-answer : payload (minus (wordAt 4 bs end-at) b) ≡ E s - b + 4
-    cut-answer = omega (arith, place, end-near s bs S)
+    pub cutHigh-bytes : cutHigh-model bs (restIs s) b ≡ leaves (granted (E s - b) (cut s b least room)) bs
+    unfolding cutHigh-model
+    cutHigh-bytes =
+        (λ i. granted-model (puts ((end-at, place i) ∷ (R s, freeHead (minus (s .rest) b)) ∷ (place i, heldHead b) ∷ []) bs) (place i) b)
+        ∙ granted-leaves _ (E s - b) b (cut s b least room) bs (omega (arith, end-near s bs S)) cut-bytes
 
-  pub cutHigh-bytes : cutHigh-model bs b ≡ leaves (cutHigh s b) bs
-  unfolding cutHigh-model Holds
-  cutHigh-bytes =
-      by< (s .rest) (b + 8)
-      (λ l. if<-yes (restOf bs) (b + 8) _ _ (subst (λ (k : ℕ). k < b + 8) (sym (rest-read s bs S)) l)
-      ∙ ap (out (Refused no-room)) (sym (S .holds))
+  pub cut-high-bytes : cut-model bs b ≡ leaves (cutHigh s b) bs
+  unfolding cut-model Holds
+  cut-high-bytes =
+      ap (λ (r : Rest). if< (r .size) (b + 8) (out (Refused no-room) bs) (cutHigh-model bs r b)) (rest-read s bs S)
+      ∙ by< (s .rest) (b + 8)
+      (λ l. if<-yes (s .rest) (b + 8) _ _ l ∙ ap (out (Refused no-room)) (sym (S .holds))
       ∙ ap (λ (r : Result). leaves r bs) (sym (if<-yes (s .rest) (b + 8) _ _ l)))
-      (λ l. if<-no (restOf bs) (b + 8) _ _ (subst (λ (k : ℕ). b + 8 ≤ k) (sym (rest-read s bs S)) l)
-      ∙ (λ i. out (Done (cut-answer l i)) (cut-bytes l i))
-      ∙ ap (λ (r : Result). leaves r bs) (sym (if<-no (s .rest) (b + 8) _ _ l)))
+      (λ l. if<-no (s .rest) (b + 8) _ _ l ∙ cutHigh-bytes l ∙ ap (λ (r : Result). leaves r bs) (sym (if<-no (s .rest) (b + 8) _ _ l)))
 
   pub takeSmall-bytes : takeSmall-model bs b ≡ leaves (takeSmall s b) bs
   unfolding takeSmall-model takeSmall first
   takeSmall-bytes = go (s .bins b) refl
     where
       go : (xs : List ℕ) → s .bins b ≡ xs → takeSmall-model bs b ≡ leaves (smallFrom s b xs) bs
-      go [] e = if=-yes (wordAt 4 bs (small-bins + b)) 0 _ _ (bin-read s bs S b least small eights ∙ ap first e) ∙ cutHigh-bytes
+      go [] e = if=-yes (wordAt 4 bs (small-bins + b)) 0 _ _ (bin-read s bs S b least small eights ∙ ap first e) ∙ cut-high-bytes
       go (q ∷ l) e =
           let w : wordAt 4 bs (small-bins + b) ≡ q = bin-read s bs S b least small eights ∙ ap first e in
           if=-no (wordAt 4 bs (small-bins + b)) 0 _ _ (λ o. omega (arith, pop-place s (S .well-formed) b small least eights q l e, sym w ∙ o))
-          ∙ ap (λ (k : ℕ). out (Done (payload k)) (pop-model bs b k)) w
-          ∙ (λ i. out (Done (pop-answer q l e i)) (pop-bytes q l e i))
+          ∙ ap (λ (k : ℕ). granted-model (pop-model bs b k) k b) w
+          ∙ granted-leaves (pop-model bs b q) q b (pop s b q l .state) bs
+          (omega (arith, pop-place s (S .well-formed) b small least eights q l e, S .well-formed .fits)) (pop-bytes q l e)

@@ -1,3 +1,5 @@
+pub mod Granted
 pub mod Large
+pub mod Remainder
 pub mod Small
 pub mod Take

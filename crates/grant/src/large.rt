@@ -1,35 +1,13 @@
 // A large block: from a bin of its size, else from the smallest bin that leaves a large rest, else the remainder's low end.
 ghost use mathlib.Core.Path.{_≡_};
 ghost use Rattle.paper.specs.Answers.{out};
-ghost use Rattle.grant.specs.Large.{leaver, leaveBin, hold as hold-of, split as split-of, takeWhole, takePart, cutLow, takeLarger, takeLarge};
-use crate::small::payload;
-use crate::small::spend;
-use bins::Place;
+ghost use Rattle.grant.specs.Large.{hold as hold-of, split as split-of, takeWhole, takePart, cutLow, cut as cut-of, takeLarger, takeLarge};
+use crate::granted::granted;
+use crate::remainder::Rest;
+use crate::remainder::remainder;
+use bins::Bin;
 use paper::Answer;
-use paper::END;
 use paper::START;
-
-// Within a bin the second block is used where there is one, else the first.
-fn chosen(pool: &[u8], first: u32) -> u32
-    ensures { λ r. ⌜ r ≡ leaver (now (pool .entry)) first ⌝ }
-{
-    let second = bins::linked(pool, first, paper::NEXT);
-    if second == 0 {
-        return first;
-    }
-    second
-}
-
-// The chosen block q leaves the bin that `first` heads.
-fn leave_bin(pool: &mut [u8], before: u32, first: u32, q: u32)
-    ensures { λ _. ⌜ now (pool .exit) ≡ leaveBin (now (pool .entry)) before first q ⌝ }
-{
-    if q == first {
-        bins::leave_first(pool, before, first);
-        return;
-    }
-    bins::leave_later(pool, first, q);
-}
 
 // The block q of b bytes is held, which the block above it is told.
 fn hold(pool: &mut [u8], q: u32, b: u32)
@@ -48,76 +26,71 @@ fn split(pool: &mut [u8], q: u32, z: u32, b: u32)
     let rest = words::plus(q, b);
     let size = words::minus(z, b);
     words::put32(pool, q as usize, heads::held_head(b));
-    bins::make_free(pool, rest, size);
     bins::enter(pool, rest, size);
 }
 
 // A block of a bin of exactly b.
-fn take_whole(pool: &mut [u8], place: Place, b: u32) -> Answer
-    ensures { λ r. ⌜ takeWhole (now (pool .entry)) place b ≡ out r (now (pool .exit)) ⌝ }
+fn take_whole(pool: &mut [u8], bin: Bin, b: u32) -> Answer
+    ensures { λ r. ⌜ takeWhole (now (pool .entry)) bin b ≡ out r (now (pool .exit)) ⌝ }
 {
-    let q = chosen(pool, place.first);
-    leave_bin(pool, place.before, place.first, q);
+    let q = bins::take_out(pool, bin);
     hold(pool, q, b);
-    spend(pool, b);
-    Answer::Done(payload(q))
+    granted(pool, q, b)
 }
 
 // The low end of a block of a larger bin.
-fn take_part(pool: &mut [u8], place: Place, b: u32) -> Answer
-    ensures { λ r. ⌜ takePart (now (pool .entry)) place b ≡ out r (now (pool .exit)) ⌝ }
+fn take_part(pool: &mut [u8], bin: Bin, b: u32) -> Answer
+    ensures { λ r. ⌜ takePart (now (pool .entry)) bin b ≡ out r (now (pool .exit)) ⌝ }
 {
-    let z = bins::size_of(pool, place.first);
-    let q = chosen(pool, place.first);
-    leave_bin(pool, place.before, place.first, q);
-    split(pool, q, z, b);
-    spend(pool, b);
-    Answer::Done(payload(q))
+    let q = bins::take_out(pool, bin);
+    split(pool, q, bins::size(bin), b);
+    granted(pool, q, b)
 }
 
-// The remainder gives its first b bytes, if 8 are left.
-fn cut_low(pool: &mut [u8], b: u32) -> Answer
-    ensures { λ r. ⌜ cutLow (now (pool .entry)) b ≡ out r (now (pool .exit)) ⌝ }
+// The remainder gives its first b bytes.
+fn cut_low(pool: &mut [u8], rest: Rest, b: u32) -> Answer
+    ensures { λ r. ⌜ cutLow (now (pool .entry)) rest b ≡ out r (now (pool .exit)) ⌝ }
 {
-    let start = words::get32(pool, START);
-    let end = words::get32(pool, END);
-    let rest = words::minus(end, start);
-    if (rest as u64) < b as u64 + 8 {
+    let above = words::plus(rest.start, b);
+    let head = heads::free_head(words::minus(rest.size, b));
+    words::put32(pool, START, above);
+    words::put32(pool, rest.start as usize, heads::held_head(b));
+    words::put32(pool, above as usize, head);
+    granted(pool, rest.start, b)
+}
+
+// The remainder, if 8 bytes are left.
+fn cut(pool: &mut [u8], b: u32) -> Answer
+    ensures { λ r. ⌜ cut-of (now (pool .entry)) b ≡ out r (now (pool .exit)) ⌝ }
+{
+    let rest = remainder(pool);
+    if (rest.size as u64) < b as u64 + 8 {
         return Answer::Refused(paper::NO_ROOM);
     }
-    let above = words::plus(start, b);
-    words::put32(pool, START, above);
-    words::put32(pool, start as usize, heads::held_head(b));
-    words::put32(
-        pool,
-        above as usize,
-        heads::free_head(words::minus(rest, b)),
-    );
-    spend(pool, b);
-    Answer::Done(payload(start))
+    cut_low(pool, rest, b)
 }
 
-// No bin of exactly b, which would stand past `before`: the smallest one of at least b + 72, else the remainder.
-fn take_larger(pool: &mut [u8], before: u32, b: u32) -> Answer
-    ensures { λ r. ⌜ takeLarger (now (pool .entry)) before b ≡ out r (now (pool .exit)) ⌝ }
+// `exact` is not of exactly b: the smallest bin of at least b + 72, else the remainder.
+fn take_larger(pool: &mut [u8], exact: Bin, b: u32) -> Answer
+    ensures { λ r. ⌜ takeLarger (now (pool .entry)) exact b ≡ out r (now (pool .exit)) ⌝ }
 {
-    let larger = bins::find(pool, paper::CHAIN, before, words::plus(b, paper::LARGE));
-    if larger.first == 0 {
-        return cut_low(pool, b);
+    let larger = bins::find_on(pool, exact, words::plus(b, paper::LARGE));
+    if bins::none(larger) {
+        return cut(pool, b);
     }
     take_part(pool, larger, b)
 }
 
-// The bin of exactly b, or what stands past its place. Where nothing does, no bin is larger either.
+// The bin of exactly b, or a larger one. Where none is at least b, the remainder.
 pub fn take_large(pool: &mut [u8], b: u32) -> Answer
     ensures { λ r. ⌜ takeLarge (now (pool .entry)) b ≡ out r (now (pool .exit)) ⌝ }
 {
-    let exact = bins::find(pool, paper::CHAIN, paper::FALSE_BLOCK, b);
-    if exact.first == 0 {
-        return cut_low(pool, b);
+    let exact = bins::find(pool, b);
+    if bins::none(exact) {
+        return cut(pool, b);
     }
-    if bins::size_of(pool, exact.first) == b {
+    if bins::size(exact) == b {
         return take_whole(pool, exact, b);
     }
-    take_larger(pool, exact.before, b)
+    take_larger(pool, exact, b)
 }

@@ -1,7 +1,9 @@
 // How a block is granted. Total, and with no inspection of its own: the pool's calls inspect first.
 //
 // Bytes that stay: only words that are governed afterwards are stored, so a taken payload keeps its old bytes.
+mod granted;
 mod large;
+mod remainder;
 mod small;
 
 ghost use mathlib.Core.Path.{_≡_};

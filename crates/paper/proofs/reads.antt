@@ -1,8 +1,10 @@
+pub mod HeadWords
 pub mod Allowed
 pub mod Readings
 pub mod LooseReads
 pub mod Unique
 pub mod Stands
+pub mod HeaderReads
 pub mod Standing
 pub mod RoundTrip
 pub mod PayloadWrites

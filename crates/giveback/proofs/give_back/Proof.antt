@@ -1,25 +1,18 @@
--- giveback::give_back meets its contract, by the size.
+-- giveback::give_back meets its contract, by its text.
 use Rattle.giveback.specs.GiveBack.{giveBack}
-use Rattle.words.specs.Choice.{if<-yes, if<-no}
 use borrow.Author.Needs.{needs}
 use Rattle.giveback.proofs.give_back.Statement.{statement}
 use Rattle.giveback.proofs.give_back.Tie as tie
 
 returns : tie.Need-returns
 unfolding giveBack
-returns c = rw (if<-yes _ _ _ _ (c .before .before .before .before .if1 .taken)) (cc)
-
-returns-2 : tie.Need-returns-2
-unfolding giveBack
-returns-2 c = rw (if<-no _ _ _ _ (c .before .before .before .before .if1 .left)) (cc)
+returns c = cc
 
 pub give-back-spec : {M : Type 1} → statement M
 give-back-spec =
     tie.close
     (tie.spec
     (λ c κs. search needs)
-    (λ c. search needs)
-    returns
     (λ c κs. search needs)
     (λ c. search needs)
-    returns-2)
+    returns)

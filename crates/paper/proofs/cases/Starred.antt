@@ -1,6 +1,6 @@
 -- The starred cases of "On both sides of the edge", one list under one claim: each is computed by the definitions.
 use mathlib.Core.Path.{_≡_, refl}
-use mathlib.Core.Option.{Option, none, some}
+use mathlib.Core.Option.{Option, some}
 use mathlib.Core.List.{List, [], _∷_}
 use Prim.Native.Nat.{ℕ}
 use Rattle.words.specs.Choice.{if<, if=}

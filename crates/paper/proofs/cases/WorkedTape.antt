@@ -7,7 +7,6 @@ use Rattle.heads.specs.Heads.{blockSize}
 use Rattle.classes.specs.Class.{size, leastFrom, classOf}
 use Rattle.paper.specs.declared.Answer.{Answer}
 use Rattle.paper.specs.declared.Answer.the-variants.{Done, Refused}
-use Rattle.paper.specs.declared.Figures.{Figures}
 use Rattle.paper.specs.Blocks.{State}
 use Rattle.paper.specs.Bins.{first, seek, rebin, enter, leave, used}
 use Rattle.paper.specs.Runs.{under, from, replace, startsAt, endsAt, sumOf}

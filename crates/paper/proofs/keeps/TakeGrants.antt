@@ -9,10 +9,10 @@ use Rattle.heads.specs.Heads.{blockSize}
 use Rattle.paper.proofs.runs.Asking.{heldAt-in}
 use Rattle.paper.proofs.runs.HeldPlaces.{heldAt}
 use Rattle.paper.proofs.keeps.Kept.{sized-high, sized-low}
+use Rattle.paper.proofs.bins.Smallest.{smallest-found}
 use Rattle.paper.proofs.runs.Places.{first-in-high, in-apart, used-in-low}
 use Rattle.paper.proofs.runs.Replaced.{in-replaced}
 use Rattle.paper.proofs.keeps.TakeKeeps.{take-well-formed}
-use Rattle.paper.proofs.keeps.TakeLargeKeeps.{smallestBin-found}
 use Rattle.paper.proofs.runs.Walk.{In, flagPast, in-left, in-mid}
 use Rattle.paper.specs.declared.Answer.the-variants.{Done}
 use Rattle.paper.specs.Bins.{first, used}
@@ -132,7 +132,7 @@ module _ (s : State) (W : WellFormed s) (b : ℕ) where
     takeLarge-grants =
         by= (first (s .bins b)) 0
         (λ e. by= (smallestBin s (b + 72)) 0 (λ f. simp ifs cutLow-grants)
-        (λ f. let r = smallestBin-found s (b + 72) f in simp ifs (takePart-grants (smallestBin s (b + 72)) (r .0) (r .1))))
+        (λ f. let r = smallest-found s (b + 72) f in simp ifs (takePart-grants (smallestBin s (b + 72)) (r .0) (r .1))))
         (λ n. simp ifs (takeWhole-grants n))
 
 -- ---- any payload

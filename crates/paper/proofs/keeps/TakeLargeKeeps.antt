@@ -1,7 +1,7 @@
 -- A large block taken, from a bin of its size, as the low part of a larger one, or from the remainder's low end, keeps the state well formed.
 use mathlib.Core.List.{List, [], _++_, _∷_}
 use mathlib.Core.Logic.{_≢_}
-use mathlib.Core.Path.{_∙_, _≡_, ap, sym}
+use mathlib.Core.Path.{_≡_, ap}
 use Prim.Native.Nat.{_%_, _+_, _-_, _≤_, ℕ}
 use native.Mathlib.Omega.{arith}
 use Rattle.paper.proofs.bins.BinLaws.{count-rebin-enter, count-rebin-leave, used-counts-where-first}
@@ -10,23 +10,14 @@ use Rattle.paper.proofs.bins.Listed.{freeAt-append}
 use Rattle.paper.proofs.runs.LowHigh.{low-append, low-cut, low-hold}
 use Rattle.paper.proofs.runs.Places.{used-in-low}
 use Rattle.paper.proofs.runs.Replaced.{replaced-by, replaced-freeAt, replaced-sized, replaced-total}
-use Rattle.paper.proofs.bins.Seek.{seek-spec}
+use Rattle.paper.proofs.bins.Smallest.{smallest-found}
 use Rattle.paper.proofs.runs.Walk.{in-sized, sized-append, total-append}
 use Rattle.paper.specs.Bins.{enter, first, leave, rebin, used}
-use Rattle.paper.specs.Blocks.{Block, State, block, end, free, held, total}
+use Rattle.paper.specs.Blocks.{Block, State, block, free, held, total}
 use Rattle.paper.specs.Granting.{E, cutLow, smallestBin, takeLarge, takePart, takeWhole}
 use Rattle.paper.specs.Runs.{from, replace, under}
 use Rattle.paper.specs.Sound.{Low, WellFormed, freeAt}
-use Rattle.words.specs.Choice.{by<, by=, if=, if=-no, if=-yes, ifs}
-
--- the smallest bin of at least y is not empty
-pub smallestBin-found : (s : State) (y : ℕ) → smallestBin s y ≢ 0 → (y ≤ smallestBin s y) × (first (s .bins (smallestBin s y)) ≢ 0)
-unfolding smallestBin
-smallestBin-found s y n =
-    let r = seek-spec (λ z. if= (first (s .bins z)) 0 0 z) (end s) y n in
-    by= (first (s .bins (r .0))) 0 (λ e. absurd (n (sym (r .2) ∙ if=-yes _ 0 _ _ e)))
-    (λ m. let e : r .0 ≡ smallestBin s y = sym (if=-no _ 0 _ _ m) ∙ r .2 in
-    (omega (arith, r .1), λ k. m (ap (λ (z : ℕ). first (s .bins z)) e ∙ k)))
+use Rattle.words.specs.Choice.{by<, by=, ifs}
 
 module _ (s : State) (W : WellFormed s) (b : ℕ) (large : 72 ≤ b) (eights : b % 8 ≡ 0) where
   takeWhole-keeps : first (s .bins b) ≢ 0 → Kept s (takeWhole s b .state)
@@ -89,5 +80,5 @@ module _ (s : State) (W : WellFormed s) (b : ℕ) (large : 72 ≤ b) (eights : b
   takeLarge-keeps =
       by= (first (s .bins b)) 0
       (λ e. by= (smallestBin s (b + 72)) 0 (λ f. simp ifs cutLow-keeps)
-      (λ f. let r = smallestBin-found s (b + 72) f in simp ifs (takePart-keeps (smallestBin s (b + 72)) (r .0) (r .1))))
+      (λ f. let r = smallest-found s (b + 72) f in simp ifs (takePart-keeps (smallestBin s (b + 72)) (r .0) (r .1))))
       (λ n. simp ifs (takeWhole-keeps n))

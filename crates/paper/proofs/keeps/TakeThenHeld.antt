@@ -6,11 +6,11 @@ use mathlib.Core.Path.{_∙_, _≡_, ap, refl, sym}
 use Prim.Native.Nat.{_%_, _+_, _-_, _<_, _≤_, ℕ}
 use native.Mathlib.Omega.{arith}
 use Rattle.heads.specs.Heads.{blockSize}
+use Rattle.paper.proofs.bins.Smallest.{smallest-found}
 use Rattle.paper.proofs.keeps.BackThenHeld.{Released, free-none, held-one, held-runs}
 use Rattle.paper.proofs.keeps.Kept.{sized-high, sized-low}
 use Rattle.paper.proofs.keeps.TakeGrants.{take-held, take-past-head}
 use Rattle.paper.proofs.keeps.TakeKeeps.{blockSize-eights, blockSize-least, take-refused, take-well-formed}
-use Rattle.paper.proofs.keeps.TakeLargeKeeps.{smallestBin-found}
 use Rattle.paper.proofs.runs.HeldPlaces.{heldAt}
 use Rattle.paper.proofs.runs.Places.{first-in-high, used-in-low}
 use Rattle.paper.proofs.runs.Replaced.{replaced-starts, replaced-total}
@@ -155,7 +155,7 @@ module _ (s : State) (W : WellFormed s) (b : ℕ) (eights : b % 8 ≡ 0) (least 
     takeLarge-adds =
         by= (first (s .bins b)) 0
         (λ e. by= (smallestBin s (b + large)) 0 (λ f. simp ifs cutLow-adds)
-        (λ f. let r = smallestBin-found s (b + large) f in simp ifs (takePart-adds (smallestBin s (b + large)) (r .0) (r .1))))
+        (λ f. let r = smallest-found s (b + large) f in simp ifs (takePart-adds (smallestBin s (b + large)) (r .0) (r .1))))
         (λ n. simp ifs (takeWhole-adds n))
 
 take-adds : (s : State) → WellFormed s → (payload : ℕ) → Adds s (blockSize payload) (take s payload)

@@ -12,12 +12,13 @@ use Rattle.paper.proofs.bins.Distances.{linkWord-small}
 use Rattle.paper.proofs.sheet.Fields.{at-back, at-head, at-on, at-word, false-word, height-le}
 use Rattle.paper.proofs.steps.First.{reach-is}
 use Rattle.paper.proofs.bins.Listed.{Loose, start}
+use Rattle.paper.proofs.reads.HeadWords.{heldBit-le}
 use Rattle.paper.proofs.bins.Seek.{seek-none, seek-spec}
 use Rattle.paper.proofs.runs.Walk.{In, in-aligned, in-flag, in-high, in-sized, in-unique, sized-parts, total-append}
 use Rattle.paper.proofs.sheet.Written.{holds-word}
 use Rattle.paper.specs.Bins.{count, first, nextIn, prevIn}
-use Rattle.paper.specs.Blocks.{Kind, State, block, blocks, end, free, held, remainder, size}
-use Rattle.paper.specs.Governed.{above, headWord, height, heldBit, link, reach, sheet}
+use Rattle.paper.specs.Blocks.{Kind, State, block, blocks, end, free, remainder, size}
+use Rattle.paper.specs.Governed.{above, headWord, height, link, reach, sheet}
 use Rattle.paper.specs.Sheet.{Holds}
 use Rattle.words.specs.Choice.{by<, by=}
 use Rattle.words.specs.Words.{wordAt}
@@ -77,12 +78,7 @@ module _ (bs : List ℕ) (s : State) (W : Loose s) (fits : end s ≤ 65536) (l :
       let hi = in-high (blocks s) 168 1 q (block z k) P i in
       let al = in-aligned (blocks s) 168 1 q (block z k) P (W .sized) refl i in
       let fl = in-flag (blocks s) 168 1 q (block z k) P (omega arith) i in
-      word-reads q (headWord z k P) (omega arith) (omega arith) (omega (arith, heldBit-most k)) (at-head s q z k P i (omega arith))
-    where
-      heldBit-most : (k : Kind) → heldBit k ≤ 1
-      heldBit-most held = omega arith
-      heldBit-most free = omega arith
-      heldBit-most remainder = omega arith
+      word-reads q (headWord z k P) (omega arith) (omega arith) (omega (arith, heldBit-le k)) (at-head s q z k P i (omega arith))
 
   -- of a listed large block q
   module _ (q z : ℕ) (large : 72 ≤ z) (i : 1 ≤ count q (s .bins z)) where

@@ -11,20 +11,16 @@ use Rattle.paper.proofs.bins.Bins.{first-count, next-mem, prev-first, p
 use Rattle.paper.proofs.bins.Distances.{linkWord-inj, linkWord-small}
 use Rattle.paper.proofs.sheet.Fields.{at-back, at-block, at-head, at-on}
 use Rattle.paper.proofs.bins.Listed.{loose, start}
+use Rattle.paper.proofs.reads.HeadWords.{heldBit-le}
 use Rattle.paper.proofs.runs.Walk.{In, in-aligned, in-flag, in-high, in-sized, sized-parts, total-append}
 use Rattle.paper.proofs.sheet.Written.{holds-word}
 use Rattle.paper.specs.Bins.{count, first, nextIn, prevIn}
-use Rattle.paper.specs.Blocks.{Kind, State, block, blocks, end, free, held, remainder, total}
-use Rattle.paper.specs.Governed.{headWord, headerWord, heldBit, index, link, sheet, smallWord}
+use Rattle.paper.specs.Blocks.{Kind, State, block, blocks, end, free, remainder, total}
+use Rattle.paper.specs.Governed.{headWord, headerWord, index, link, sheet, smallWord}
 use Rattle.paper.specs.Sheet.{Holds}
 use Rattle.paper.specs.Sound.{WellFormed}
 use Rattle.words.specs.Choice.{by=, if<, if<-yes, if=, if=-no, if=-yes, ifs}
 use Rattle.words.specs.Words.{wordAt}
-
-heldBit-le : (k : Kind) → heldBit k ≤ 1
-heldBit-le held = omega arith
-heldBit-le free = omega arith
-heldBit-le remainder = omega arith
 
 -- ---- what one state says of the bytes
 module _ (bs : List ℕ) (s : State) (W : WellFormed s) (l : length bs ≡ end s) (h : Holds (sheet s) bs) where

@@ -1,18 +1,18 @@
 -- bins::leave_first meets its contract, by the test on the second block.
-use Rattle.bins.specs.Leave.{headBin, leaveFirst}
+use Rattle.bins.specs.Leave.{leaveFirst}
 use Rattle.words.specs.Choice.{if=-yes, if=-no}
-use borrow.Author.Needs.{needs}
 use mathlib.Core.Path.{sym, _∙_}
+use borrow.Author.Needs.{needs}
 use Rattle.bins.proofs.leaving.leave_first.Statement.{statement}
 use Rattle.bins.proofs.leaving.leave_first.Tie as tie
 
 returns : tie.Need-returns
 unfolding leaveFirst
-returns c = rw (if=-yes _ _ _ _ (sym (c .before .before .before .before .before .before .before .before .linked .ensures) ∙ c .before .before .before .before .before .if1 .taken)) (cc)
+returns c = rw (if=-yes _ _ _ _ (sym (c .before .before .before .before .before .linked .ensures) ∙ c .before .before .before .before .if1 .taken)) (cc)
 
 returns-2 : tie.Need-returns-2
-unfolding leaveFirst headBin
-returns-2 c = rw (if=-no _ _ _ _ (λ e. c .before .before .before .before .before .before .before .before .before .before .before .before .before .before .before .before .before .before .if1 .left (c .before .before .before .before .before .before .before .before .before .before .before .before .before .before .before .before .before .before .before .before .before .linked .ensures ∙ e))) (cc)
+unfolding leaveFirst
+returns-2 c = rw (if=-no _ _ _ _ (λ e. c .before .before .before .before .if1 .left (c .before .before .before .before .before .linked .ensures ∙ e))) (cc)
 
 pub leave-first-spec : {M : Type 1} → statement M
 leave-first-spec =
@@ -20,15 +20,8 @@ leave-first-spec =
     (tie.spec
     (λ c κs. search needs)
     (λ c κs. search needs)
-    (λ c κs. search needs)
-    (λ c κs. search needs)
     (λ c. search needs)
     returns
-    (λ c κs. search needs)
-    (λ c κs. search needs)
-    (λ c κs. search needs)
-    (λ c κs. search needs)
-    (λ c κs. search needs)
     (λ c κs. search needs)
     (λ c. search needs)
     returns-2)

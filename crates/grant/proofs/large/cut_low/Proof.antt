@@ -1,20 +1,12 @@
--- grant::cut_low meets its contract, by the test on the remainder.
-use Prim.Native.Nat.{ℕ, _+_, _<_, _≤_}
-use Rattle.grant.specs.Large.{cutStart, cutLow}
-use Rattle.grant.specs.Small.{restOf}
-use Rattle.words.specs.Choice.{if<-yes, if<-no}
+-- grant::cut_low meets its contract, by its text.
+use Rattle.grant.specs.Large.{cutLow}
 use borrow.Author.Needs.{needs}
-use mathlib.Core.Path.{_≡_, subst}
 use Rattle.grant.proofs.large.cut_low.Statement.{statement}
 use Rattle.grant.proofs.large.cut_low.Tie as tie
 
 returns : tie.Need-returns
 unfolding cutLow
-returns c = let e : c .before .minus .result ≡ restOf (c .before .before .before .before .before .before .before .args .pool .now) = cc in rw (if<-yes _ _ _ _ (subst (λ (t : ℕ). t < c .before .before .before .before .before .before .before .args .b + 8) e (c .if1 .taken))) (cc)
-
-returns-2 : tie.Need-returns-2
-unfolding cutLow cutStart
-returns-2 c = let e : c .before .before .before .before .before .before .before .before .before .before .before .before .before .before .before .before .before .before .before .before .before .before .minus .result ≡ restOf (c .before .before .before .before .before .before .before .before .before .before .before .before .before .before .before .before .before .before .before .before .before .before .before .before .before .before .before .before .args .pool .now) = cc in rw (if<-no _ _ _ _ (subst (λ (t : ℕ). c .before .before .before .before .before .before .before .before .before .before .before .before .before .before .before .before .before .before .before .before .before .before .before .before .before .before .before .before .args .b + 8 ≤ t) e (c .before .before .before .before .before .before .before .before .before .before .before .before .before .before .before .before .before .before .before .before .before .if1 .left))) (cc)
+returns c = cc
 
 pub cut-low-spec : {M : Type 1} → statement M
 cut-low-spec =
@@ -23,11 +15,6 @@ cut-low-spec =
     (λ c κs. search needs)
     (λ c κs. search needs)
     (λ c κs. search needs)
-    (λ c. search needs)
-    (λ c. search needs)
-    (λ c. search needs)
-    returns
-    (λ c κs. search needs)
     (λ c κs. search needs)
     (λ c. search needs)
     (λ c κs. search needs)
@@ -35,8 +22,5 @@ cut-low-spec =
     (λ c. search needs)
     (λ c κs. search needs)
     (λ c κs. search needs)
-    (λ c κs. search needs)
-    (λ c κs. search needs)
-    (λ c κs. search needs)
     (λ c. search needs)
-    returns-2)
+    returns)

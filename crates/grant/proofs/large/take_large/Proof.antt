@@ -1,27 +1,28 @@
 -- grant::take_large meets its contract, by the tests on the bin that was found.
 use Rattle.grant.specs.Large.{takeLarge}
-use Rattle.words.specs.Choice.{if=-yes, if=-no}
-use borrow.Author.Needs.{needs}
+use Rattle.words.specs.Choice.{if=-yes, if=-no, when-yes, when-no}
 use mathlib.Core.Path.{sym, _∙_}
+use borrow.Author.Needs.{needs}
 use Rattle.grant.proofs.large.take_large.Statement.{statement}
 use Rattle.grant.proofs.large.take_large.Tie as tie
 
 returns : tie.Need-returns
 unfolding takeLarge
-returns c = rw (← c .before .before .before .before .before .before .find .ensures, if=-yes _ _ _ _ (c .before .before .before .before .if1 .taken)) (cc)
+returns c = rw (← c .before .before .before .before .before .before .find .ensures, when-yes _ _ _ (sym (c .before .before .before .before .before .none .ensures) ∙ c .before .before .before .before .if1 .taken)) (cc)
 
 returns-2 : tie.Need-returns-2
 unfolding takeLarge
-returns-2 c = rw (← c .before .before .before .before .before .before .before .before .before .find .ensures, if=-no _ _ _ _ (c .before .before .before .before .before .before .before .if1 .left), if=-yes _ _ _ _ (sym (c .before .before .before .before .before .size-of .ensures) ∙ c .before .before .before .before .if2 .taken)) (cc)
+returns-2 c = rw (← c .before .before .before .before .before .before .before .before .find .ensures, when-no _ _ _ (sym (c .before .before .before .before .before .before .before .none .ensures) ∙ c .before .before .before .before .before .before .if1 .left), if=-yes _ _ _ _ (sym (c .before .before .before .before .before .size .ensures) ∙ c .before .before .before .before .if2 .taken)) (cc)
 
 returns-3 : tie.Need-returns-3
 unfolding takeLarge
-returns-3 c = rw (← c .before .before .before .before .before .before .before .before .before .find .ensures, if=-no _ _ _ _ (c .before .before .before .before .before .before .before .if1 .left), if=-no _ _ _ _ (λ e. c .before .before .before .before .if2 .left (c .before .before .before .before .before .size-of .ensures ∙ e))) (cc)
+returns-3 c = rw (← c .before .before .before .before .before .before .before .before .find .ensures, when-no _ _ _ (sym (c .before .before .before .before .before .before .before .none .ensures) ∙ c .before .before .before .before .before .before .if1 .left), if=-no _ _ _ _ (λ e. c .before .before .before .before .if2 .left (c .before .before .before .before .before .size .ensures ∙ e))) (cc)
 
 pub take-large-spec : {M : Type 1} → statement M
 take-large-spec =
     tie.close
     (tie.spec
+    (λ c κs. search needs)
     (λ c κs. search needs)
     (λ c κs. search needs)
     (λ c. search needs)

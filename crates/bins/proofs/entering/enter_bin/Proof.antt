@@ -1,0 +1,33 @@
+-- bins::enter_bin meets its contract, by the tests on the bin that was found.
+use Rattle.bins.specs.Enter.{enterAt, enterBin}
+use Rattle.words.specs.Choice.{if=-yes, if=-no}
+use borrow.Author.Needs.{needs}
+use Rattle.bins.proofs.entering.enter_bin.Statement.{statement}
+use Rattle.bins.proofs.entering.enter_bin.Tie as tie
+
+returns : tie.Need-returns
+unfolding enterBin enterAt
+returns c = rw (← c .before .before .before .before .before .before .find .ensures, if=-yes _ _ _ _ (c .before .before .before .before .if1 .taken)) (cc)
+
+returns-2 : tie.Need-returns-2
+unfolding enterBin enterAt
+returns-2 c = rw (← c .before .before .before .before .before .before .before .before .find .ensures, if=-no _ _ _ _ (c .before .before .before .before .before .before .if1 .left), if=-yes _ _ _ _ (c .before .before .before .before .if2 .taken)) (cc)
+
+returns-3 : tie.Need-returns-3
+unfolding enterBin enterAt
+returns-3 c = rw (← c .before .before .before .before .before .before .before .before .find .ensures, if=-no _ _ _ _ (c .before .before .before .before .before .before .if1 .left), if=-no _ _ _ _ (c .before .before .before .before .if2 .left)) (cc)
+
+pub enter-bin-spec : {M : Type 1} → statement M
+enter-bin-spec =
+    tie.close
+    (tie.spec
+    (λ c κs. search needs)
+    (λ c κs. search needs)
+    (λ c. search needs)
+    returns
+    (λ c κs. search needs)
+    (λ c. search needs)
+    returns-2
+    (λ c κs. search needs)
+    (λ c. search needs)
+    returns-3)

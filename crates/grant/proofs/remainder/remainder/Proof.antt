@@ -1,0 +1,18 @@
+-- grant::remainder meets its contract, by its text.
+use Rattle.grant.specs.Remainder.{remainder}
+use borrow.Author.Needs.{needs}
+use Rattle.grant.proofs.remainder.remainder.Statement.{statement}
+use Rattle.grant.proofs.remainder.remainder.Tie as tie
+
+returns : tie.Need-returns
+unfolding remainder
+returns c = cc
+
+pub remainder-spec : {M : Type 1} → statement M
+remainder-spec =
+    tie.close
+    (tie.spec
+    (λ c κs. search needs)
+    (λ c κs. search needs)
+    (λ c κs. search needs)
+    returns)
