@@ -11,7 +11,7 @@
 
 enum { FREE_WORD = 0, FALSE_WORD = 8, START = 16, END = 24, SMALL_BINS = 24, FALSE_BLOCK = 96, BLOCKS = 168 };
 enum { SMALL_NEXT = 4, PREVIOUS = 4, NEXT = 8, LEVEL = 12, CHAIN = 64, LARGE = 72 };
-enum { NOT_ALLOWED = 1, NOT_SOUND, NO_SIZE, NO_ROOM, NOT_HELD, NOT_53 };
+enum { NOT_ALLOWED = 1, NOT_SOUND, NO_SIZE, NO_ROOM, NOT_HELD, LIST_LENGTH };
 enum { HELD = 1, P = 2, LEAST_POOL = 176, GREATEST_POOL = 65536, CLASSES = 53 };
 
 static inline uint32_t word(const uint8_t *pool, uint32_t at) {
@@ -438,7 +438,7 @@ static void tally(const uint8_t *pool, uint32_t from, uint32_t to, uint32_t *fig
 uint64_t plain_figures(const uint8_t *pool, size_t n, uint32_t *figures, size_t count) {
     uint32_t why = refusal(pool, n);
     if (why || count != 7)
-        return refused(why ? why : NOT_53);
+        return refused(why ? why : LIST_LENGTH);
     uint32_t start = word(pool, START), end = word(pool, END);
     memset(figures, 0, 7 * sizeof *figures);
     figures[4] = figures[6] = end - start;
@@ -474,7 +474,7 @@ uint64_t plain_class_count(const uint8_t *pool, size_t n, uint32_t *counts, size
     if (why)
         return refused(why);
     if (count != CLASSES)
-        return refused(NOT_53);
+        return refused(LIST_LENGTH);
     memset(counts, 0, CLASSES * sizeof *counts);
     uint32_t low = count_run(pool, BLOCKS, word(pool, START), counts);
     return low + count_run(pool, word(pool, END), n, counts);

@@ -59,7 +59,7 @@ enum {
     POOL_SIZE_ZERO = 3,   /* the size is 0 */
     POOL_NO_ROOM = 4,     /* no room by the grant rule */
     POOL_NOT_HELD = 5,    /* the offset is not the start of a held payload */
-    POOL_WRONG_COUNT = 6  /* the list has not 7 figures, or not 53 counters */
+    POOL_LIST_LENGTH = 6  /* the list has not 7 figures, or not 53 counters */
 };
 
 /* Every call returns one number: the refusal in its upper 32 bits, the value in its lower 32 bits. Done, the refusal is 0; refused, the

@@ -14,7 +14,7 @@ static const char *in_words(uint32_t refusal) {
     case POOL_SIZE_ZERO: return "the size is 0";
     case POOL_NO_ROOM: return "there is no room";
     case POOL_NOT_HELD: return "no held payload starts there";
-    case POOL_WRONG_COUNT: return "the list has the wrong length";
+    case POOL_LIST_LENGTH: return "the list has the wrong length";
     default: return "no answer of this pool";
     }
 }

@@ -132,8 +132,8 @@ static void refusals(void) {
         refused(GIVE_BACK, 1024, NOT_HELD[i], 0, POOL_NOT_HELD);
         refused(ASK, 1024, NOT_HELD[i], 0, POOL_NOT_HELD);
     }
-    for (i = 0; i < sizeof NOT_7 / sizeof *NOT_7; i++) refused(FIGURES, 1024, 0, NOT_7[i], POOL_WRONG_COUNT);
-    for (i = 0; i < sizeof NOT_53 / sizeof *NOT_53; i++) refused(CLASS_COUNT, 1024, 0, NOT_53[i], POOL_WRONG_COUNT);
+    for (i = 0; i < sizeof NOT_7 / sizeof *NOT_7; i++) refused(FIGURES, 1024, 0, NOT_7[i], POOL_LIST_LENGTH);
+    for (i = 0; i < sizeof NOT_53 / sizeof *NOT_53; i++) refused(CLASS_COUNT, 1024, 0, NOT_53[i], POOL_LIST_LENGTH);
     done(TAKE, 1024, 404, 0, 556);
 }
 

@@ -3,7 +3,7 @@
 use std::error::Error;
 use std::fmt;
 
-/// Why a call was refused. The paper's number 6, a list of another length, cannot be met here: the lists are arrays.
+/// Why a call was refused. The paper's number 6, `POOL_LIST_LENGTH` for C, cannot be met here: the lists are arrays.
 #[derive(Clone, Copy, Debug, PartialEq, Eq)]
 pub enum Refusal {
     /// 1: the length is not a multiple of 8 from 176 to 65,536.

@@ -7,7 +7,7 @@ use native.Mathlib.Omega.{arith}
 use lib.ListN.{length, set}
 use Rattle.paper.specs.declared.Figures.{Figures}
 use Rattle.paper.specs.declared.Answer.the-variants.{Done, Refused}
-use Rattle.paper.specs.Answers.{out, not-53, sevenOf}
+use Rattle.paper.specs.Answers.{out, list-length, sevenOf}
 use Rattle.words.specs.Choice.{if=-yes, if=-no}
 use Rattle.board.specs.Heard.{counted}
 
@@ -36,6 +36,6 @@ pub counted-stored : (f : Figures) (xs : List ℕ) → length xs ≡ 7 → count
 unfolding counted
 counted-stored f xs n = if=-yes _ _ _ _ n ∙ ap (λ (s : List ℕ). out (Done (f .«held_blocks»)) s) (sym (seven-stored f xs n))
 
-pub counted-refused : (f : Figures) (xs : List ℕ) → length xs ≢ 7 → counted f xs ≡ out (Refused not-53) xs
+pub counted-refused : (f : Figures) (xs : List ℕ) → length xs ≢ 7 → counted f xs ≡ out (Refused list-length) xs
 unfolding counted
 counted-refused f xs n = if=-no _ _ _ _ n

@@ -9,7 +9,7 @@ use Rattle.paper.specs.declared.Answer.the-variants.{Done, Refused}
 use Rattle.paper.specs.declared.Figures.{Figures}
 use Rattle.paper.specs.declared.Tally.{Tally}
 use Rattle.paper.specs.declared.Tally.the-variants.{Counted, Refused as Uncounted}
-use Rattle.paper.specs.Answers.{Out, out, number, sevenOf, value, not-53}
+use Rattle.paper.specs.Answers.{Out, out, number, sevenOf, value, list-length}
 use Rattle.pool.specs.Calls as call
 
 -- ---- one number
@@ -42,7 +42,7 @@ leaves o = left (heard (o .answer)) (o .after)
 
 -- a list of another length is refused as the class count refuses one that has not 53 counters
 unfoldable pub counted : Figures → List ℕ → Out
-counted f xs = if= (length xs) 7 (out (Done (f .«held_blocks»)) (sevenOf f)) (out (Refused not-53) xs)
+counted f xs = if= (length xs) 7 (out (Done (f .«held_blocks»)) (sevenOf f)) (out (Refused list-length) xs)
 
 abbrev pub tallied : Tally → List ℕ → Out
 tallied (Counted f) xs = counted f xs

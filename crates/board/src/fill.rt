@@ -7,12 +7,12 @@ use paper::Figures;
 use paper::Tally;
 
 // The seven figures, in the paper's order; answers the first. Another list than one of seven numbers stays as it is, and is refused
-// with the number by which the class count refuses one that has not 53.
+// by its length, as the class count refuses one that has not 53.
 fn counted(f: Figures, list: &mut [u32]) -> Answer
     ensures { λ r. ⌜ board.counted f (now (list .entry)) ≡ out r (now (list .exit)) ⌝ }
 {
     if list.len() != 7 {
-        return Answer::Refused(paper::NOT_53);
+        return Answer::Refused(paper::LIST_LENGTH);
     }
     list[0] = f.held_blocks;
     list[1] = f.held_bytes;

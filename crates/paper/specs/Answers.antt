@@ -31,8 +31,8 @@ no-room = 4
 abbrev pub not-held : ℕ
 not-held = 5
 
-abbrev pub not-53 : ℕ
-not-53 = 6
+abbrev pub list-length : ℕ
+list-length = 6
 
 abbrev pub unreadable : ℕ
 unreadable = 7

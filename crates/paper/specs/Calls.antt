@@ -9,7 +9,7 @@ use Rattle.paper.specs.declared.Answer.{Answer}
 use Rattle.paper.specs.declared.Answer.the-variants.{Done, Refused}
 use Rattle.paper.specs.declared.Tally.{Tally}
 use Rattle.paper.specs.declared.Tally.the-variants.{Counted, Refused as Uncounted}
-use Rattle.paper.specs.Answers.{Out, out, not-allowed, not-sound, not-53}
+use Rattle.paper.specs.Answers.{Out, out, not-allowed, not-sound, list-length}
 use Rattle.paper.specs.Allowed.{Allowed, allowed}
 use Rattle.paper.specs.Blocks.{State, blocks}
 use Rattle.paper.specs.Runs.{sumOf}
@@ -79,7 +79,7 @@ figuresCall r = byReading r Uncounted (λ s. Counted (figures s))
 
 -- "The class count returns the number of held blocks", and "the count fills a lent list of 53 numbers"
 unfoldable pub classCount : State → List ℕ → Out
-classCount s cs = if= (length cs) 53 (out (Done (sumOf heldOne (blocks s))) (classCounters s)) (unchanged cs not-53)
+classCount s cs = if= (length cs) 53 (out (Done (sumOf heldOne (blocks s))) (classCounters s)) (unchanged cs list-length)
 
 abbrev pub classCountCall : Reading → List ℕ → Out
 classCountCall r cs = byReading r (unchanged cs) (λ s. classCount s cs)

@@ -57,6 +57,6 @@ pub const NO_ROOM: u8 = 4;
 
 pub const NOT_HELD: u8 = 5;
 
-pub const NOT_53: u8 = 6;
+pub const LIST_LENGTH: u8 = 6;
 
 pub const UNREADABLE: u8 = 7;

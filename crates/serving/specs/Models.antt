@@ -8,7 +8,7 @@ use Rattle.words.specs.Sums.{minus}
 use Rattle.paper.specs.declared.Answer.{Answer}
 use Rattle.paper.specs.declared.Answer.the-variants.{Done, Refused}
 use Rattle.paper.specs.declared.Found.{Found}
-use Rattle.paper.specs.Answers.{Out, out, not-53}
+use Rattle.paper.specs.Answers.{Out, out, list-length}
 use Rattle.paper.specs.Calls.{unchanged}
 use Rattle.paper.specs.LookingUp.{byOffset}
 use Rattle.giveback.specs.GiveBack as giveback
@@ -39,4 +39,4 @@ ask bs offset = byAnswer (heldThere (walk.lookUp bs offset) offset) Refused (λ 
 -- what is answered, and the counters afterwards
 unfoldable pub classCount : List ℕ → List ℕ → Out
 classCount bs cs =
-    if= (length cs) 53 (out (Done (classCounts bs cs .held)) (classCounts bs cs .each)) (unchanged cs not-53)
+    if= (length cs) 53 (out (Done (classCounts bs cs .held)) (classCounts bs cs .each)) (unchanged cs list-length)

@@ -52,7 +52,7 @@ pub fn class_count(pool: &[u8], counts: &mut [u32]) -> Answer
     ensures { λ r. ⌜ model.classCount (now (pool .entry)) (now (counts .entry)) ≡ out r (now (counts .exit)) ⌝ }
 {
     if counts.len() != 53 {
-        return Answer::Refused(paper::NOT_53);
+        return Answer::Refused(paper::LIST_LENGTH);
     }
     Answer::Done(walk::count_classes(pool, counts))
 }
