@@ -23,7 +23,7 @@ use Rattle.guards.specs.Tests.{guard, same}
 use Rattle.paper.proofs.reads.Allowed.{allowed-yes}
 use Rattle.paper.proofs.bins.Bins.{count-nil, first-count}
 use Rattle.paper.proofs.bins.Distances.{followed-linkWord, linkWord-small}
-use Rattle.paper.proofs.sheet.Fields.{at-back, at-foot, at-level, at-word, false-word}
+use Rattle.paper.proofs.sheet.Fields.{at-back, at-foot, at-level, at-word, false-word, height-one}
 use Rattle.paper.proofs.bins.Listed.{freeAt-append, loose}
 use Rattle.paper.proofs.reads.Readings.{end-big, head-reads, header-reads, low-reads, next-reads, no-zero, reads, rest-reads, small-reads, start-of, top-reads}
 use Rattle.paper.proofs.bins.Seek.{seek-cong, seek-spec}
@@ -64,10 +64,6 @@ cleared-yes bs zero st a h = refl
 cleared-yes bs (suc k) st a h =
     if=-yes (wordAt 4 bs a) 0 _ _ (ap (wordAt 4 bs) (omega arith) ∙ h 0 (omega arith))
     ∙ cleared-yes bs k st (a + st) (λ i l. ap (wordAt 4 bs) (omega arith) ∙ h (suc i) (omega arith))
-
-height-one : (t z : ℕ) → t ≡ 1 → height t z ≡ 1
-unfolding height
-height-one t z e = omega arith
 
 module _ (bs : List ℕ) (s : State) (W : WellFormed s) (l : length bs ≡ end s) (h : Holds (sheet s) bs) where
   abbrev n : ℕ

@@ -20,6 +20,7 @@ use Rattle.lists.specs.Lists.{chain, lists, nextBin, smalls}
 use Rattle.guards.specs.Tests.{same}
 use Rattle.paper.proofs.reads.Allowed.{allowed-inv}
 use Rattle.paper.proofs.bins.Seek.{seek-cong}
+use Rattle.paper.proofs.sheet.Fields.{height-one}
 use Rattle.paper.specs.Allowed.{Allowed}
 use Rattle.paper.specs.Bins.{first, seek}
 use Rattle.paper.specs.Blocks.{Block, freeSum, total}
@@ -33,20 +34,16 @@ pub inv-seen : {M A : Type 0} (m : Scanned M) (bad y : A) (f : ℕ → M → ℕ
 inv-seen stray bad y f n h = absurd (n h)
 inv-seen (seen k ms sum) bad y f n h = (k, ms, sum, refl, h)
 
-height-one : (z : ℕ) → height 1 z ≡ 1
-unfolding height
-height-one z = omega arith
-
 -- one level
 above-one : (n : ℕ) (b : ℕ → List ℕ) (y : ℕ) → above 1 n b 1 y ≡ seek (λ (u : ℕ). first (b u)) n (suc y)
 unfolding above reach
-above-one n b y = seek-cong _ _ n (suc y) (λ u k. if<-no (height 1 u) 1 _ _ (omega (arith, height-one u)))
+above-one n b y = seek-cong _ _ n (suc y) (λ u k. if<-no (height 1 u) 1 _ _ (omega (arith, height-one 1 u refl)))
 
 pub tops-one : (bs : List ℕ) (n : ℕ) (b : ℕ → List ℕ) (u : ℕ) → Tops bs n b u → TopsTo 1 bs n b u
 tops-one bs n b u h nz =
     let r = h nz in (
-      r .0 ∙ sym (height-one u),
-      λ j j1 jh. let e : j ≡ 1 = omega (arith, height-one u) in
+      r .0 ∙ sym (height-one 1 u refl),
+      λ j j1 jh. let e : j ≡ 1 = omega (arith, height-one 1 u refl) in
           subst (λ (i : ℕ). wordAt 4 bs (first (b u) + (68 - 4 * i)) ≡ linkWord (first (b u)) (above 1 n b i u)) (sym e)
           (r .1 ∙ ap (linkWord (first (b u))) (sym (above-one n b u))),
     )
