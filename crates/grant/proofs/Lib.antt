@@ -1,12 +1,13 @@
 pub mod RestRead
+pub mod ChoiceRead
 pub mod Spending
 pub mod Popping
 pub mod SmallBytes
 pub mod CuttingLow
 pub mod LowBytes
-pub mod Chosen
+pub mod Around
 pub mod WholeBytes
 pub mod Parting
 pub mod PartBytes
-pub mod LargeBytes
+pub mod CarryBytes
 pub mod TakeBytes

@@ -4,10 +4,9 @@ use mathlib.Core.Path.{_∙_, _≡_, ap, sym}
 use Prim.Native.Nat.{_%_, _+_, _-_, _<_, _≤_, ℕ}
 use native.Mathlib.Omega.{arith}
 use Rattle.grant.proofs.CuttingLow.{low-cut, low-cut-puts, low-cut-written}
-use Rattle.grant.proofs.RestRead.{rest-read, restIs}
+use Rattle.grant.proofs.RestRead.{restIs}
 use Rattle.grant.proofs.Spending.{granted-leaves, spent-stores}
-use Rattle.grant.specs.Large.{cut as cut-model, cutLow as cutLow-model}
-use Rattle.grant.specs.declared.remainder.Rest.{Rest}
+use Rattle.grant.specs.Large.{cutLow as cutLow-model}
 use Rattle.grant.specs.Granted.{spent}
 use Rattle.heads.specs.Heads.{freeHead, heldHead}
 use Rattle.paper.proofs.runs.Flags.{low-flag}
@@ -17,54 +16,41 @@ use Rattle.paper.proofs.reads.HeaderReads.{end-near, free-near, free-read}
 use Rattle.paper.proofs.reads.Stands.{Stands}
 use Rattle.paper.proofs.sheet.Stores.{puts}
 use Rattle.paper.proofs.runs.Walk.{flagPast, freeSum-append, sized-eight}
-use Rattle.paper.specs.Answers.{no-room, out}
 use Rattle.paper.specs.Blocks.{State, block, blocks, freeSum, held, remainder}
 use Rattle.paper.specs.Calls.{leaves}
 use Rattle.paper.specs.Governed.{headWord, sheet}
-use Rattle.paper.specs.Granting.{R, Result, cutLow, granted}
+use Rattle.paper.specs.Granting.{R, cutLow}
 use Rattle.paper.specs.Layout.{start-at}
-use Rattle.paper.specs.Sheet.{Holds, write}
-use Rattle.paper.specs.declared.Answer.the-variants.{Refused}
-use Rattle.words.specs.Choice.{by<, if<, if<-no, if<-yes}
+use Rattle.paper.specs.Sheet.{write}
 use Rattle.words.specs.Sums.{minus, plus}
 
-module _ (s : State) (bs : List ℕ) (S : Stands s bs) (b : ℕ) (least : 8 ≤ b) (eights : b % 8 ≡ 0) where
-  module _ (room : b + 8 ≤ s .rest) where
-    above : plus (R s) b ≡ R s + b
-    above = omega (arith, end-near s bs S)
+module _ (s : State) (bs : List ℕ) (S : Stands s bs) (b : ℕ) (least : 8 ≤ b) (eights : b % 8 ≡ 0) (room : b + 8 ≤ s .rest) where
+  above : plus (R s) b ≡ R s + b
+  above = omega (arith, end-near s bs S)
 
-    held-head : heldHead b ≡ headWord b held (flagPast 1 (s .low))
-    held-head =
-        heldHead-is b (omega (arith, end-near s bs S)) ∙ ap (headWord b held) (sym (low-flag (s .low) (S .well-formed .low-ok)))
+  held-head : heldHead b ≡ headWord b held (flagPast 1 (s .low))
+  held-head =
+      heldHead-is b (omega (arith, end-near s bs S)) ∙ ap (headWord b held) (sym (low-flag (s .low) (S .well-formed .low-ok)))
 
-    rest-head : freeHead (minus (s .rest) b) ≡ headWord (s .rest - b) remainder 1
-    rest-head =
-        let e : minus (s .rest) b ≡ s .rest - b = omega (arith, end-near s bs S) in
-        ap freeHead e ∙ freeHead-is (s .rest - b) (omega (arith, end-near s bs S))
+  rest-head : freeHead (minus (s .rest) b) ≡ headWord (s .rest - b) remainder 1
+  rest-head =
+      let e : minus (s .rest) b ≡ s .rest - b = omega (arith, end-near s bs S) in
+      ap freeHead e ∙ freeHead-is (s .rest - b) (omega (arith, end-near s bs S))
 
-    abbrev stores : List (ℕ × ℕ)
-    stores = (start-at, R s + b) ∷ (R s, headWord b held (flagPast 1 (s .low))) ∷ (R s + b, headWord (s .rest - b) remainder 1) ∷ []
+  abbrev stores : List (ℕ × ℕ)
+  stores = (start-at, R s + b) ∷ (R s, headWord b held (flagPast 1 (s .low))) ∷ (R s + b, headWord (s .rest - b) remainder 1) ∷ []
 
-    low-cut-bytes : spent (puts ((start-at, plus (R s) b) ∷ (R s, heldHead b) ∷ (plus (R s) b, freeHead (minus (s .rest) b)) ∷ []) bs) b
-        ≡ write (sheet (low-cut s b least room)) bs
-    unfolding low-cut-puts
-    low-cut-bytes =
-        let al : R s % 8 ≡ 0 = omega (arith, sized-eight (s .low) (sized-low s (S .well-formed))) in
-        let r = sized-rest s (S .well-formed) in
-        (λ i. spent (puts ((start-at, above i) ∷ (R s, held-head i) ∷ (above i, rest-head i) ∷ []) bs) b)
-        ∙ spent-stores stores bs b (freeSum (blocks s) - 4) (omega arith, (omega arith, (omega arith, tt))) (free-read s bs S)
-        (omega (arith, free-near s bs S)) (omega (arith, freeSum-append (s .low) (block (s .rest) remainder ∷ s .high)))
-        ∙ low-cut-written s b least room (omega arith) (omega arith) eights bs (sym (S .ends)) (S .holds)
+  low-cut-bytes : spent (puts ((start-at, plus (R s) b) ∷ (R s, heldHead b) ∷ (plus (R s) b, freeHead (minus (s .rest) b)) ∷ []) bs) b
+      ≡ write (sheet (low-cut s b least room)) bs
+  unfolding low-cut-puts
+  low-cut-bytes =
+      let al : R s % 8 ≡ 0 = omega (arith, sized-eight (s .low) (sized-low s (S .well-formed))) in
+      let r = sized-rest s (S .well-formed) in
+      (λ i. spent (puts ((start-at, above i) ∷ (R s, held-head i) ∷ (above i, rest-head i) ∷ []) bs) b)
+      ∙ spent-stores stores bs b (freeSum (blocks s) - 4) (omega arith, (omega arith, (omega arith, tt))) (free-read s bs S)
+      (omega (arith, free-near s bs S)) (omega (arith, freeSum-append (s .low) (block (s .rest) remainder ∷ s .high)))
+      ∙ low-cut-written s b least room (omega arith) (omega arith) eights bs (sym (S .ends)) (S .holds)
 
-    pub cutLow-bytes : cutLow-model bs (restIs s) b ≡ leaves (granted (R s) (low-cut s b least room)) bs
-    unfolding cutLow-model
-    cutLow-bytes = granted-leaves _ (R s) b (low-cut s b least room) bs (omega (arith, end-near s bs S)) low-cut-bytes
-
-  pub cut-low-bytes : cut-model bs b ≡ leaves (cutLow s b) bs
-  unfolding cut-model cutLow Holds
-  cut-low-bytes =
-      ap (λ (r : Rest). if< (r .size) (b + 8) (out (Refused no-room) bs) (cutLow-model bs r b)) (rest-read s bs S)
-      ∙ by< (s .rest) (b + 8)
-      (λ l. if<-yes (s .rest) (b + 8) _ _ l ∙ ap (out (Refused no-room)) (sym (S .holds))
-      ∙ ap (λ (r : Result). leaves r bs) (sym (if<-yes (s .rest) (b + 8) _ _ l)))
-      (λ l. if<-no (s .rest) (b + 8) _ _ l ∙ cutLow-bytes l ∙ ap (λ (r : Result). leaves r bs) (sym (if<-no (s .rest) (b + 8) _ _ l)))
+  pub cutLow-bytes : cutLow-model bs (restIs s) b ≡ leaves (cutLow s b) bs
+  unfolding cutLow-model cutLow
+  cutLow-bytes = granted-leaves _ (R s) b (low-cut s b least room) bs (omega (arith, end-near s bs S)) low-cut-bytes

@@ -12,13 +12,14 @@ use Rattle.bins.specs.Enter.{enter as enter-model}
 use Rattle.bins.specs.Find.{size}
 use Rattle.bins.specs.Leave.{takeOut}
 use Rattle.bins.specs.declared.chain.Bin.{Bin}
-use Rattle.grant.proofs.Chosen.{Around, around}
+use Rattle.grant.proofs.Around.{Around, around}
 use Rattle.grant.proofs.Parting.{part-end, part-good, part-room, part-step, parted, parted-in, unparted}
 use Rattle.grant.proofs.Spending.{granted-leaves, spent-is}
 use Rattle.grant.specs.Granted.{spent, granted as granted-model}
 use Rattle.grant.specs.Large.{split, takePart as takePart-model}
 use Rattle.paper.proofs.bins.Listed.{Loose, loose}
 use Rattle.paper.proofs.keeps.Kept.{Kept}
+use Rattle.paper.proofs.keeps.TakeLargeKeeps.{takePart-keeps}
 use Rattle.paper.proofs.reads.HeadWords.{heldHead-is}
 use Rattle.paper.proofs.reads.HeaderReads.{free-near}
 use Rattle.paper.proofs.reads.Stands.{Stands}
@@ -117,10 +118,11 @@ module _ (s : State) (bs : List ℕ) (S : Stands s bs) (b : ℕ) (b-large : larg
 
 -- from the bin that was found
 pub takePart-bytes : (s : State) (bs : List ℕ) (S : Stands s bs) (b : ℕ) → large ≤ b → b % 8 ≡ 0 → (z : ℕ) → b + large ≤ z → first (s .bins z) ≢ 0
-    → Kept s (takePart s z b .state) → (bin : Bin) → Found s (b + large) bin → smallestBin s (b + large) ≡ z
+    → (bin : Bin) → Found s (b + large) bin → smallestBin s (b + large) ≡ z
     → takePart-model bs bin b ≡ leaves (takePart s z b) bs
 unfolding takePart-model takePart
-takePart-bytes s bs S b b-large eights z more n K bin F e =
+takePart-bytes s bs S b b-large eights z more n bin F e =
+    let K = takePart-keeps s (S .well-formed) b b-large eights z more n in
     let B = stands-between s bs S in
     let big : large ≤ b + large = omega arith in
     let z-large : large ≤ z = omega arith in

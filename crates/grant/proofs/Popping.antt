@@ -6,7 +6,8 @@ use mathlib.Core.Path.{_∙_, _≡_, ap, refl, subst, sym}
 use Prim.Native.Nat.{_%_, _+_, _-_, _/_, _<_, _≤_, ℕ}
 use native.Mathlib.Omega.{arith}
 use lib.ListN.{length}
-use Rattle.paper.proofs.bins.Bins.{count-here, next-absent}
+use Rattle.paper.proofs.bins.Bins.{count-here, count-nil, next-absent}
+use Rattle.paper.proofs.bins.Members.{leave-member}
 use Rattle.paper.proofs.sheet.Fields.{at-head}
 use Rattle.paper.proofs.runs.Flags.{high-flag}
 use Rattle.paper.proofs.keeps.Kept.{sized-high, sized-rest}
@@ -14,28 +15,47 @@ use Rattle.paper.proofs.steps.Leave.{NothingNew, nothing-new-trans}
 use Rattle.paper.proofs.steps.Leaving.{rebinned}
 use Rattle.paper.proofs.bins.Listed.{loose, rebin-same, start}
 use Rattle.paper.proofs.runs.LowHigh.{high-parts}
-use Rattle.paper.proofs.runs.Places.{first-in-high}
+use Rattle.paper.proofs.runs.Places.{listed-in-high}
 use Rattle.paper.proofs.steps.Segment.{after-same, seg-frame}
 use Rattle.paper.proofs.steps.SmallBins.{small-frame}
 use Rattle.paper.proofs.runs.Splitting.{in-is, in-replace, in-starts}
 use Rattle.paper.proofs.sheet.Stores.{Elsewhere, Good, finish, puts}
 use Rattle.paper.proofs.runs.Walk.{In, flagPast, freeSum-append, in-mid, total-append}
-use Rattle.paper.specs.Bins.{count, first}
+use Rattle.paper.specs.Bins.{count, first, leave, rebin}
 use Rattle.paper.specs.Blocks.{Block, State, block, blocks, end, free, freeSum, held, remainder, total}
 use Rattle.paper.specs.Governed.{headWord, headerWord, sheet, walk}
-use Rattle.paper.specs.Granting.{E, pop}
-use Rattle.paper.specs.Runs.{from, under}
+use Rattle.paper.specs.Granting.{E, granted, takeFirst}
+use Rattle.paper.specs.Runs.{from, replace, under}
 use Rattle.paper.specs.Sheet.{Holds, write}
 use Rattle.paper.specs.Sound.{High, WellFormed}
 use Rattle.words.specs.Choice.{if<-yes, if=-yes, ifs}
 
 module _ (s : State) (W : WellFormed s) (b : ℕ) (small : b ≤ 64) (least : 8 ≤ b) (eights : b % 8 ≡ 0)
     (q : ℕ) (l : List ℕ) (is-in : s .bins b ≡ q ∷ l) where
-  abbrev after-pop : State
-  after-pop = pop s b q l .state
+  abbrev pub after-pop : State
+  after-pop =
+      record { top = s .top; low = s .low; rest = s .rest; high = replace (s .high) (E s) q (q + b) (block b held ∷ []); bins = rebin (s .bins) b l }
+
+  -- as the paper says it
+  pub takeFirst-is : takeFirst s b ≡ granted q after-pop
+  unfolding takeFirst first
+  takeFirst-is =
+      let f : first (s .bins b) ≡ q = ap first is-in in
+      let g : leave (first (s .bins b)) (s .bins b) ≡ l = (λ i. leave (f i) (is-in i)) ∙ leave-member q [] l (count-nil q) in
+      λ i. granted (f i)
+      (record {
+        top = s .top;
+        low = s .low;
+        rest = s .rest;
+        high = replace (s .high) (E s) (f i) (f i + b) (block b held ∷ []);
+        bins = rebin (s .bins) b (g i);
+      })
+
+  listed : 1 ≤ count q (s .bins b)
+  listed = omega (arith, ap (count q) is-in, count-here q l)
 
   here : (P : ℕ) × In (s .high) (E s) 1 q (block b free) P
-  here = first-in-high s W b q l (omega arith) is-in
+  here = listed-in-high s W b q (omega arith) listed
 
   abbrev us : List Block
   us = under (s .high) (E s) q
@@ -119,7 +139,7 @@ module _ (s : State) (W : WellFormed s) (b : ℕ) (small : b ≤ 64) (least : 8 
 
   pub pop-place : (168 ≤ q) × (q % 8 ≡ 0) × (q + b ≤ end s)
   pop-place =
-      let p = start s (loose s W) b q (omega (arith, ap (count q) is-in, count-here q l)) in (p .0, p .2, p .1)
+      let p = start s (loose s W) b q listed in (p .0, p .2, p .1)
 
   pop-good : Good (sheet after-pop) (end after-pop) pop-puts
   unfolding pop-puts sheet headerWord

@@ -1,43 +1,40 @@
--- Taking a small block on bytes is the paper's: the model's stores are those of popping and of cutting, and the free word falls first or last.
+-- Granting a small block on bytes is the paper's: the model's stores are those of popping and of cutting, and the free word falls first or last.
 use mathlib.Core.List.{List, [], _∷_}
 use mathlib.Core.Option.{some}
 use mathlib.Core.Path.{_∙_, _≡_, ap, refl, sym}
 use Prim.Native.Nat.{_%_, _+_, _-_, _<_, _≤_, ℕ}
 use native.Mathlib.Omega.{arith}
-use Rattle.grant.proofs.Popping.{pop-place, pop-puts, pop-room, pop-written}
-use Rattle.grant.proofs.RestRead.{rest-read, restIs}
+use Rattle.grant.proofs.Popping.{after-pop, pop-place, pop-puts, pop-room, pop-written, takeFirst-is}
+use Rattle.grant.proofs.RestRead.{restIs}
 use Rattle.grant.proofs.Spending.{granted-leaves, spent-stores}
 use Rattle.grant.specs.Granted.{spent, granted as granted-model}
-use Rattle.grant.specs.Small.{cut as cut-model, cutHigh as cutHigh-model, pop as pop-model, takeSmall as takeSmall-model}
-use Rattle.grant.specs.declared.remainder.Rest.{Rest}
+use Rattle.grant.specs.Small.{cutHigh as cutHigh-model, takeFirst as takeFirst-model}
 use Rattle.heads.specs.Heads.{freeHead, heldHead}
 use Rattle.paper.proofs.bins.Bins.{count-here}
 use Rattle.paper.proofs.steps.Cut.{cut, cut-puts, take-cut}
 use Rattle.paper.proofs.runs.Flags.{low-flag}
 use Rattle.paper.proofs.keeps.Kept.{sized-low, sized-rest}
 use Rattle.paper.proofs.reads.HeadWords.{freeHead-is, heldHead-is}
-use Rattle.paper.proofs.reads.HeaderReads.{bin-read, end-near, free-near, free-read}
+use Rattle.paper.proofs.reads.HeaderReads.{end-near, free-near, free-read}
 use Rattle.paper.proofs.reads.Readings.{next-reads}
 use Rattle.paper.proofs.reads.Stands.{Stands}
 use Rattle.paper.proofs.sheet.Stores.{puts}
 use Rattle.paper.proofs.runs.Walk.{flagPast, freeSum-append, sized-eight}
-use Rattle.paper.specs.Answers.{no-room, out}
 use Rattle.paper.specs.Bins.{count, first, nextIn}
 use Rattle.paper.specs.Blocks.{State, block, blocks, freeSum, held, remainder}
 use Rattle.paper.specs.Calls.{leaves}
 use Rattle.paper.specs.Governed.{headWord, sheet}
-use Rattle.paper.specs.Granting.{E, R, Result, cutHigh, granted, pop, smallFrom, takeSmall}
-use Rattle.paper.specs.Layout.{end-at, free-word-at, small-bins}
-use Rattle.paper.specs.Sheet.{Holds, write}
-use Rattle.paper.specs.declared.Answer.the-variants.{Refused}
-use Rattle.words.specs.Choice.{by<, if<, if<-no, if<-yes, if=-no, if=-yes}
+use Rattle.paper.specs.Granting.{E, R, Result, cutHigh, takeFirst}
+use Rattle.paper.specs.Layout.{end-at, free-word-at, small-bins, small-next-at}
+use Rattle.paper.specs.Sheet.{write}
+use Rattle.words.specs.Choice.{if=-yes}
 use Rattle.words.specs.Sums.{minus}
 use Rattle.words.specs.Words.{wordAt}
 
 module _ (s : State) (bs : List ℕ) (S : Stands s bs) (b : ℕ) (least : 8 ≤ b) (small : b ≤ 64) (eights : b % 8 ≡ 0) where
   -- ---- the first of its bin
   module _ (q : ℕ) (l : List ℕ) (is-in : s .bins b ≡ q ∷ l) where
-    next-word : wordAt 4 bs (q + 4) ≡ first l
+    next-word : wordAt 4 bs (q + small-next-at) ≡ first l
     unfolding nextIn
     next-word =
         let m = next-reads bs s (S .well-formed) (sym (S .ends)) (S .holds) b q (omega (arith, ap (count q) is-in, count-here q l)) in
@@ -45,14 +42,22 @@ module _ (s : State) (bs : List ℕ) (S : Stands s bs) (b : ℕ) (least : 8 ≤ 
         let v : first l ≡ m .0 = cc in
         m .4 (omega arith) ∙ sym v
 
-    pub pop-bytes : spent (pop-model bs b q) b ≡ write (sheet (pop s b q l .state)) bs
-    unfolding pop-model pop-puts
+    pop-bytes : spent (puts ((small-bins + b, wordAt 4 bs (q + small-next-at)) ∷ (q, heldHead b) ∷ []) bs) b
+        ≡ write (sheet (after-pop s (S .well-formed) b small least eights q l is-in)) bs
+    unfolding pop-puts
     pop-bytes =
-        (λ i. spent (puts ((24 + b, next-word i) ∷ (q, heldHead-is b (omega arith) i) ∷ []) bs) b)
-        ∙ spent-stores ((24 + b, first l) ∷ (q, headWord b held 1) ∷ []) bs b (freeSum (blocks s) - 4)
+        (λ i. spent (puts ((small-bins + b, next-word i) ∷ (q, heldHead-is b (omega arith) i) ∷ []) bs) b)
+        ∙ spent-stores ((small-bins + b, first l) ∷ (q, headWord b held 1) ∷ []) bs b (freeSum (blocks s) - 4)
         (omega arith, (omega (arith, pop-place s (S .well-formed) b small least eights q l is-in), tt)) (free-read s bs S)
         (omega (arith, free-near s bs S)) (omega (arith, pop-room s (S .well-formed) b small least eights q l is-in))
         ∙ pop-written s (S .well-formed) b small least eights q l is-in bs (sym (S .ends)) (S .holds)
+
+    pub takeFirst-bytes : takeFirst-model bs q b ≡ leaves (takeFirst s b) bs
+    unfolding takeFirst-model
+    takeFirst-bytes =
+        granted-leaves _ q b (after-pop s (S .well-formed) b small least eights q l is-in) bs
+        (omega (arith, pop-place s (S .well-formed) b small least eights q l is-in, S .well-formed .fits)) pop-bytes
+        ∙ ap (λ (r : Result). leaves r bs) (sym (takeFirst-is s (S .well-formed) b small least eights q l is-in))
 
   -- ---- the remainder's high end
   module _ (room : b + 8 ≤ s .rest) where
@@ -84,30 +89,8 @@ module _ (s : State) (bs : List ℕ) (S : Stands s bs) (b : ℕ) (least : 8 ≤ 
         ∙ ap (λ (k : ℕ). puts ((free-word-at, k) ∷ cut-rest) bs) f
         ∙ take-cut s b least room (omega arith) (omega arith) (omega arith) bs (sym (S .ends)) (S .holds)
 
-    pub cutHigh-bytes : cutHigh-model bs (restIs s) b ≡ leaves (granted (E s - b) (cut s b least room)) bs
-    unfolding cutHigh-model
+    pub cutHigh-bytes : cutHigh-model bs (restIs s) b ≡ leaves (cutHigh s b) bs
+    unfolding cutHigh-model cutHigh
     cutHigh-bytes =
         (λ i. granted-model (puts ((end-at, place i) ∷ (R s, freeHead (minus (s .rest) b)) ∷ (place i, heldHead b) ∷ []) bs) (place i) b)
         ∙ granted-leaves _ (E s - b) b (cut s b least room) bs (omega (arith, end-near s bs S)) cut-bytes
-
-  pub cut-high-bytes : cut-model bs b ≡ leaves (cutHigh s b) bs
-  unfolding cut-model Holds
-  cut-high-bytes =
-      ap (λ (r : Rest). if< (r .size) (b + 8) (out (Refused no-room) bs) (cutHigh-model bs r b)) (rest-read s bs S)
-      ∙ by< (s .rest) (b + 8)
-      (λ l. if<-yes (s .rest) (b + 8) _ _ l ∙ ap (out (Refused no-room)) (sym (S .holds))
-      ∙ ap (λ (r : Result). leaves r bs) (sym (if<-yes (s .rest) (b + 8) _ _ l)))
-      (λ l. if<-no (s .rest) (b + 8) _ _ l ∙ cutHigh-bytes l ∙ ap (λ (r : Result). leaves r bs) (sym (if<-no (s .rest) (b + 8) _ _ l)))
-
-  pub takeSmall-bytes : takeSmall-model bs b ≡ leaves (takeSmall s b) bs
-  unfolding takeSmall-model takeSmall first
-  takeSmall-bytes = go (s .bins b) refl
-    where
-      go : (xs : List ℕ) → s .bins b ≡ xs → takeSmall-model bs b ≡ leaves (smallFrom s b xs) bs
-      go [] e = if=-yes (wordAt 4 bs (small-bins + b)) 0 _ _ (bin-read s bs S b least small eights ∙ ap first e) ∙ cut-high-bytes
-      go (q ∷ l) e =
-          let w : wordAt 4 bs (small-bins + b) ≡ q = bin-read s bs S b least small eights ∙ ap first e in
-          if=-no (wordAt 4 bs (small-bins + b)) 0 _ _ (λ o. omega (arith, pop-place s (S .well-formed) b small least eights q l e, sym w ∙ o))
-          ∙ ap (λ (k : ℕ). granted-model (pop-model bs b k) k b) w
-          ∙ granted-leaves (pop-model bs b q) q b (pop s b q l .state) bs
-          (omega (arith, pop-place s (S .well-formed) b small least eights q l e, S .well-formed .fits)) (pop-bytes q l e)

@@ -11,13 +11,14 @@ use Rattle.bins.proofs.ChainRead.{Found}
 use Rattle.bins.proofs.Left.{Left, grows-same, left-write, take-out-left, used-is}
 use Rattle.bins.specs.Leave.{takeOut}
 use Rattle.bins.specs.declared.chain.Bin.{Bin}
-use Rattle.grant.proofs.Chosen.{Around, above-in, around, takeWhole-kept}
+use Rattle.grant.proofs.Around.{Around, above-in, around}
 use Rattle.grant.proofs.Spending.{granted-leaves, spent-stores}
 use Rattle.grant.specs.Granted.{spent, granted as granted-model}
 use Rattle.grant.specs.Large.{hold, takeWhole as takeWhole-model}
 use Rattle.heads.specs.Heads.{heldHead, withP}
 use Rattle.paper.proofs.steps.Hold.{end-same, hold-frame, hold-good, hold-puts, hold-state}
 use Rattle.paper.proofs.keeps.Kept.{sized-rest}
+use Rattle.paper.proofs.keeps.TakeLargeKeeps.{takeWhole-keeps}
 use Rattle.paper.proofs.bins.Listed.{Loose, loose}
 use Rattle.paper.proofs.reads.HeadWords.{heldHead-is, withP-held}
 use Rattle.paper.proofs.sheet.Phases.{Step, step-write}
@@ -111,7 +112,7 @@ module _ (s : State) (bs : List ℕ) (S : Stands s bs) (b : ℕ) (large : 72 ≤
       }
 
   loose-after : Loose (H held)
-  loose-after = subst Loose after (loose (takeWhole s b .state) (takeWhole-kept s (S .well-formed) b large eights n .well-formed))
+  loose-after = subst Loose after (loose (takeWhole s b .state) (takeWhole-keeps s (S .well-formed) b large eights n .well-formed))
 
   pub whole-written : spent (hold cs q b) b ≡ write (sheet (takeWhole s b .state)) bs
   whole-written =

@@ -1,20 +1,17 @@
--- The model of taking a large block, on a list of bytes.
+-- The model of granting a large block, on a list of bytes.
 use mathlib.Core.List.{List}
 use mathlib.Core.Bool.{true}
-use Prim.Native.Nat.{ℕ, _+_}
-use Rattle.words.specs.Choice.{if<, if=, when}
+use Prim.Native.Nat.{ℕ}
 use Rattle.words.specs.Sums.{plus, minus}
 use Rattle.words.specs.Words.{wordAt, putAt}
 use Rattle.heads.specs.Heads.{heldHead, freeHead, withP}
-use Rattle.paper.specs.declared.Answer.the-variants.{Refused}
-use Rattle.paper.specs.Answers.{Out, out, no-room}
-use Rattle.paper.specs.Layout.{start-at, large}
+use Rattle.paper.specs.Answers.{Out}
+use Rattle.paper.specs.Layout.{start-at}
 use Rattle.bins.specs.declared.chain.Bin.{Bin}
-use Rattle.bins.specs.Find.{find, findOn, none, size}
+use Rattle.bins.specs.Find.{size}
 use Rattle.bins.specs.Leave.{usedIn, takeOut}
 use Rattle.bins.specs.Enter.{enter}
 use Rattle.grant.specs.Granted.{granted}
-use Rattle.grant.specs.Remainder.{remainder}
 use Rattle.grant.specs.declared.remainder.Rest.{Rest}
 
 unfoldable pub hold : List ℕ → ℕ → ℕ → List ℕ
@@ -40,19 +37,3 @@ unfoldable pub cutLow : List ℕ → Rest → ℕ → Out
 cutLow bs rest b =
     let above = plus (rest .start) b in
     granted (putAt 4 (putAt 4 (putAt 4 bs start-at above) (rest .start) (heldHead b)) above (freeHead (minus (rest .size) b))) (rest .start) b
-
-unfoldable pub cut : List ℕ → ℕ → Out
-cut bs b =
-    let rest = remainder bs in
-    if< (rest .size) (b + 8) (out (Refused no-room) bs) (cutLow bs rest b)
-
--- the smallest bin of at least b + 72, past the one that was found for b, or the remainder
-unfoldable pub takeLarger : List ℕ → Bin → ℕ → Out
-takeLarger bs exact b =
-    let larger = findOn bs exact (plus b large) in
-    when (none larger) (cut bs b) (takePart bs larger b)
-
-unfoldable pub takeLarge : List ℕ → ℕ → Out
-takeLarge bs b =
-    let exact = find bs b in
-    when (none exact) (cut bs b) (if= (size exact) b (takeWhole bs exact b) (takeLarger bs exact b))

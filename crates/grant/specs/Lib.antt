@@ -1,3 +1,4 @@
+pub mod Choosing
 pub mod Granted
 pub mod Large
 pub mod Remainder

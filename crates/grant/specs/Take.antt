@@ -1,16 +1,21 @@
--- The model of taking, on a list of bytes: the block size, then the small or the large way.
+-- The model of taking, on a list of bytes: what is chosen is carried out.
 use mathlib.Core.List.{List}
 use Prim.Native.Nat.{ℕ}
-use Rattle.words.specs.Choice.{if<, if=}
-use Rattle.heads.specs.Heads.{blockSize}
 use Rattle.paper.specs.declared.Answer.the-variants.{Refused}
-use Rattle.paper.specs.Answers.{Out, out, no-size, no-room}
-use Rattle.paper.specs.Layout.{large}
-use Rattle.grant.specs.Small.{takeSmall}
-use Rattle.grant.specs.Large.{takeLarge}
+use Rattle.paper.specs.Answers.{Out, out}
+use Rattle.grant.specs.declared.choosing.Choice.{Choice}
+use Rattle.grant.specs.declared.choosing.Choice.the-variants.{ExactBin, FirstOfBin, HighEnd, LargerBin, LowEnd, Refusal}
+use Rattle.grant.specs.Choosing.{choose}
+use Rattle.grant.specs.Small.{cutHigh, takeFirst}
+use Rattle.grant.specs.Large.{cutLow, takePart, takeWhole}
+
+unfoldable pub carryOut : List ℕ → Choice → Out
+carryOut bs (FirstOfBin q b) = takeFirst bs q b
+carryOut bs (HighEnd rest b) = cutHigh bs rest b
+carryOut bs (ExactBin bin b) = takeWhole bs bin b
+carryOut bs (LargerBin bin b) = takePart bs bin b
+carryOut bs (LowEnd rest b) = cutLow bs rest b
+carryOut bs (Refusal k) = out (Refused k) bs
 
 unfoldable pub take : List ℕ → ℕ → Out
-take bs s =
-    if= s 0
-    (out (Refused no-size) bs)
-    (if< 65536 (blockSize s) (out (Refused no-room) bs) (if< (blockSize s) large (takeSmall bs (blockSize s)) (takeLarge bs (blockSize s))))
+take bs s = carryOut bs (choose bs s)

@@ -1,10 +1,9 @@
-// A large block: from a bin of its size, else from the smallest bin that leaves a large rest, else the remainder's low end.
+// A large block is granted: a block of a bin of its size, the low end of one of a larger bin, or the remainder's low end.
 ghost use mathlib.Core.Path.{_≡_};
 ghost use Rattle.paper.specs.Answers.{out};
-ghost use Rattle.grant.specs.Large.{hold as hold-of, split as split-of, takeWhole, takePart, cutLow, cut as cut-of, takeLarger, takeLarge};
+ghost use Rattle.grant.specs.Large.{hold as hold-of, split as split-of, takeWhole, takePart, cutLow};
 use crate::granted::granted;
 use crate::remainder::Rest;
-use crate::remainder::remainder;
 use bins::Bin;
 use paper::Answer;
 use paper::START;
@@ -30,7 +29,7 @@ fn split(pool: &mut [u8], q: u32, z: u32, b: u32)
 }
 
 // A block of a bin of exactly b.
-fn take_whole(pool: &mut [u8], bin: Bin, b: u32) -> Answer
+pub fn take_whole(pool: &mut [u8], bin: Bin, b: u32) -> Answer
     ensures { λ r. ⌜ takeWhole (now (pool .entry)) bin b ≡ out r (now (pool .exit)) ⌝ }
 {
     let q = bins::take_out(pool, bin);
@@ -39,7 +38,7 @@ fn take_whole(pool: &mut [u8], bin: Bin, b: u32) -> Answer
 }
 
 // The low end of a block of a larger bin.
-fn take_part(pool: &mut [u8], bin: Bin, b: u32) -> Answer
+pub fn take_part(pool: &mut [u8], bin: Bin, b: u32) -> Answer
     ensures { λ r. ⌜ takePart (now (pool .entry)) bin b ≡ out r (now (pool .exit)) ⌝ }
 {
     let q = bins::take_out(pool, bin);
@@ -48,7 +47,7 @@ fn take_part(pool: &mut [u8], bin: Bin, b: u32) -> Answer
 }
 
 // The remainder gives its first b bytes.
-fn cut_low(pool: &mut [u8], rest: Rest, b: u32) -> Answer
+pub fn cut_low(pool: &mut [u8], rest: Rest, b: u32) -> Answer
     ensures { λ r. ⌜ cutLow (now (pool .entry)) rest b ≡ out r (now (pool .exit)) ⌝ }
 {
     let above = words::plus(rest.start, b);
@@ -57,40 +56,4 @@ fn cut_low(pool: &mut [u8], rest: Rest, b: u32) -> Answer
     words::put32(pool, rest.start as usize, heads::held_head(b));
     words::put32(pool, above as usize, head);
     granted(pool, rest.start, b)
-}
-
-// The remainder, if 8 bytes are left.
-fn cut(pool: &mut [u8], b: u32) -> Answer
-    ensures { λ r. ⌜ cut-of (now (pool .entry)) b ≡ out r (now (pool .exit)) ⌝ }
-{
-    let rest = remainder(pool);
-    if (rest.size as u64) < b as u64 + 8 {
-        return Answer::Refused(paper::NO_ROOM);
-    }
-    cut_low(pool, rest, b)
-}
-
-// `exact` is not of exactly b: the smallest bin of at least b + 72, else the remainder.
-fn take_larger(pool: &mut [u8], exact: Bin, b: u32) -> Answer
-    ensures { λ r. ⌜ takeLarger (now (pool .entry)) exact b ≡ out r (now (pool .exit)) ⌝ }
-{
-    let larger = bins::find_on(pool, exact, words::plus(b, paper::LARGE));
-    if bins::none(larger) {
-        return cut(pool, b);
-    }
-    take_part(pool, larger, b)
-}
-
-// The bin of exactly b, or a larger one. Where none is at least b, the remainder.
-pub fn take_large(pool: &mut [u8], b: u32) -> Answer
-    ensures { λ r. ⌜ takeLarge (now (pool .entry)) b ≡ out r (now (pool .exit)) ⌝ }
-{
-    let exact = bins::find(pool, b);
-    if bins::none(exact) {
-        return cut(pool, b);
-    }
-    if bins::size(exact) == b {
-        return take_whole(pool, exact, b);
-    }
-    take_larger(pool, exact, b)
 }

@@ -1,6 +1,7 @@
 pub mod Kept
 pub mod KeptStands
 pub mod FreshSound
+pub mod Choices
 pub mod TakeSmallKeeps
 pub mod TakeLargeKeeps
 pub mod TakeKeeps

@@ -1,4 +1,4 @@
--- "How a block is granted": the answer of a take for a payload, and the state afterwards.
+-- "How a block is granted": where the block for a payload comes from; and the answer of a take that it gives, and the state afterwards.
 use mathlib.Core.List.{List, [], _∷_, _++_}
 use Prim.Native.Nat.{ℕ, _+_, _-_}
 use Rattle.words.specs.Choice.{if=, if<}
@@ -30,29 +30,59 @@ R s = blocks-at + total (s .low)
 abbrev pub E : State → ℕ
 E s = R s + s .rest
 
--- ---- "Small: the first of its bin; otherwise cut from the remainder's high end, if the remainder is at least b + 8; otherwise 4."
+-- ---- where a block of b bytes comes from: one case for each clause of the rule
 
-abbrev pub pop : State → ℕ → ℕ → List ℕ → Result
-pop s b q l =
+pub data Choice : Type 0 where
+  first-of-bin high-end exact-bin low-end : ℕ → Choice
+  larger-bin : ℕ → ℕ → Choice
+  refusal : ℕ → Choice
+
+-- ".. if the remainder is at least b + 8; otherwise 4."
+abbrev pub ifRoom : State → ℕ → Choice → Choice
+ifRoom s b c = if< (s .rest) (b + 8) (refusal no-room) c
+
+-- "Small: the first of its bin; otherwise cut from the remainder's high end"
+unfoldable pub chooseSmall : State → ℕ → Choice
+chooseSmall s b = if= (first (s .bins b)) 0 (ifRoom s b (high-end b)) (first-of-bin b)
+
+-- the size of the smallest bin of at least y, 0 where there is none
+unfoldable pub smallestBin : State → ℕ → ℕ
+smallestBin s y = seek (λ z. if= (first (s .bins z)) 0 0 z) (end s) y
+
+-- "Large, first that applies: a bin of size exactly b; the smallest bin of size at least b + 72, ..; the remainder's low end"
+unfoldable pub chooseLarge : State → ℕ → Choice
+chooseLarge s b =
+    let z = smallestBin s (b + large) in
+    if= (first (s .bins b)) 0 (if= z 0 (ifRoom s b (low-end b)) (larger-bin z b)) (exact-bin b)
+
+-- "A payload of s bytes needs a block of b = s + 4 rounded up to a multiple of 8"; "b of 72 or more is large"; "size is 0" is asked first.
+unfoldable pub choose : State → ℕ → Choice
+choose s payload =
+    if= payload 0
+    (refusal no-size)
+    (if< (blockSize payload) large (chooseSmall s (blockSize payload)) (chooseLarge s (blockSize payload)))
+
+-- ---- what each choice does
+
+-- the first of the small bin leaves it
+unfoldable pub takeFirst : State → ℕ → Result
+takeFirst s b =
+    let q = first (s .bins b) in
     granted q
-    (record { top = s .top; low = s .low; rest = s .rest; high = replace (s .high) (E s) q (q + b) (block b held ∷ []); bins = rebin (s .bins) b l })
+    (record {
+      top = s .top;
+      low = s .low;
+      rest = s .rest;
+      high = replace (s .high) (E s) q (q + b) (block b held ∷ []);
+      bins = rebin (s .bins) b (leave q (s .bins b));
+    })
 
-abbrev pub cutHigh : State → ℕ → Result
+-- the remainder gives its last b bytes
+unfoldable pub cutHigh : State → ℕ → Result
 cutHigh s b =
-    if< (s .rest) (b + 8)
-    (refused no-room s)
-    (granted (E s - b) (record { top = s .top; low = s .low; rest = s .rest - b; high = block b held ∷ s .high; bins = s .bins }))
+    granted (E s - b) (record { top = s .top; low = s .low; rest = s .rest - b; high = block b held ∷ s .high; bins = s .bins })
 
-abbrev pub smallFrom : State → ℕ → List ℕ → Result
-smallFrom s b [] = cutHigh s b
-smallFrom s b (q ∷ l) = pop s b q l
-
-unfoldable pub takeSmall : State → ℕ → Result
-takeSmall s b = smallFrom s b (s .bins b)
-
--- ---- "Large, first that applies: a bin of size exactly b; the smallest bin of size at least b + 72, giving its low b bytes, the rest
--- ---- entering its own bin as a free large block; the remainder's low end, if it is at least b + 8; otherwise 4."
-
+-- "Within a bin, the second block is used where there is one, else the first."
 unfoldable pub takeWhole : State → ℕ → Result
 takeWhole s b =
     let q = used (s .bins b) in
@@ -65,6 +95,7 @@ takeWhole s b =
       bins = rebin (s .bins) b (leave q (s .bins b));
     })
 
+-- ".. giving its low b bytes, the rest entering its own bin as a free large block"
 unfoldable pub takePart : State → ℕ → ℕ → Result
 takePart s z b =
     let q = used (s .bins z) in
@@ -78,25 +109,18 @@ takePart s z b =
       bins = rebin left (z - b) (enter (q + b) (left (z - b)));
     })
 
+-- the remainder gives its first b bytes
 unfoldable pub cutLow : State → ℕ → Result
 cutLow s b =
-    if< (s .rest) (b + 8)
-    (refused no-room s)
-    (granted (R s) (record { top = s .top; low = s .low ++ block b held ∷ []; rest = s .rest - b; high = s .high; bins = s .bins }))
+    granted (R s) (record { top = s .top; low = s .low ++ block b held ∷ []; rest = s .rest - b; high = s .high; bins = s .bins })
 
--- the size of the smallest bin of at least y, 0 where there is none
-unfoldable pub smallestBin : State → ℕ → ℕ
-smallestBin s y = seek (λ z. if= (first (s .bins z)) 0 0 z) (end s) y
+abbrev pub carryOut : State → Choice → Result
+carryOut s (first-of-bin b) = takeFirst s b
+carryOut s (high-end b) = cutHigh s b
+carryOut s (exact-bin b) = takeWhole s b
+carryOut s (larger-bin z b) = takePart s z b
+carryOut s (low-end b) = cutLow s b
+carryOut s (refusal k) = refused k s
 
-unfoldable pub takeLarge : State → ℕ → Result
-takeLarge s b =
-    if= (first (s .bins b)) 0
-    (if= (smallestBin s (b + large)) 0 (cutLow s b) (takePart s (smallestBin s (b + large)) b))
-    (takeWhole s b)
-
--- "A payload of s bytes needs a block of b = s + 4 rounded up to a multiple of 8"; "b of 72 or more is large"; "size is 0" is asked first.
 unfoldable pub take : State → ℕ → Result
-take s payload =
-    if= payload 0
-    (refused no-size s)
-    (if< (blockSize payload) large (takeSmall s (blockSize payload)) (takeLarge s (blockSize payload)))
+take s payload = carryOut s (choose s payload)

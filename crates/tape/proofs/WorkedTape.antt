@@ -18,7 +18,7 @@ use Rattle.paper.specs.Bins.{enter, first, leave, rebin, seek, used}
 use Rattle.paper.specs.Counting.{figures, greatestFree}
 use Rattle.paper.specs.Fresh.{fresh}
 use Rattle.paper.specs.GivingBack.{giveBack, giveBackLarge, giveBackSmall, left, settle}
-use Rattle.paper.specs.Granting.{cutLow, smallestBin, take, takeLarge, takePart, takeSmall, takeWhole}
+use Rattle.paper.specs.Granting.{choose, chooseLarge, chooseSmall, cutHigh, cutLow, smallestBin, take, takeFirst, takePart, takeWhole}
 use Rattle.paper.specs.LookingUp.{blockAt, lookUp}
 use Rattle.paper.specs.Runs.{endsAt, from, replace, startsAt, sumOf, under}
 use Rattle.tape.specs.Lines.{beginOf, lineOf, restOf}
@@ -65,7 +65,7 @@ worked-lines =
     line "13 S 0 4 368 0 1 416 484 412"
 
 computed : linesFrom 65536 (length worked) worked 0 1 none ≡ worked-lines
-unfolding worked worked-lines if< if= when wordAt digitsAt blockSize numeral numeralWith allowed enter first leave rebin seek used figures greatestFree fresh giveBack giveBackLarge giveBackSmall left settle cutLow smallestBin take takeLarge takePart takeSmall takeWhole blockAt lookUp endsAt from replace startsAt sumOf under beginOf lineOf restOf readAt withBody linesFrom serveState
+unfolding worked worked-lines if< if= when wordAt digitsAt blockSize numeral numeralWith allowed enter first leave rebin seek used figures greatestFree fresh giveBack giveBackLarge giveBackSmall left settle blockAt lookUp choose chooseLarge chooseSmall cutHigh cutLow smallestBin take takeFirst takePart takeWhole endsAt from replace startsAt sumOf under beginOf lineOf restOf readAt withBody linesFrom serveState
 computed = refl
 
 pub worked-tape : (buffer : List ℕ) → Bytes buffer → length buffer ≡ 65536 → runOf worked buffer .text ≡ worked-lines

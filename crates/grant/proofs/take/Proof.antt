@@ -1,39 +1,18 @@
--- grant::take meets its contract, by the tests on the size.
+-- grant::take meets its contract, by its text.
 use Rattle.grant.specs.Take.{take}
-use Rattle.words.specs.Choice.{if=-yes, if=-no, if<-yes, if<-no}
 use borrow.Author.Needs.{needs}
 use Rattle.grant.proofs.take.Statement.{statement}
 use Rattle.grant.proofs.take.Tie as tie
 
 returns : tie.Need-returns
 unfolding take
-returns c = rw (if=-yes _ _ _ _ (c .if1 .taken)) (cc)
-
-returns-2 : tie.Need-returns-2
-unfolding take
-returns-2 c = rw (← c .before .block-size .ensures, if=-no _ _ _ _ (c .before .before .if1 .left), if<-yes _ _ _ _ (c .if2 .taken)) (cc)
-
-returns-3 : tie.Need-returns-3
-unfolding take
-returns-3 c = rw (← c .before .before .before .before .before .before .block-size .ensures, if=-no _ _ _ _ (c .before .before .before .before .before .before .before .if1 .left), if<-no _ _ _ _ (c .before .before .before .before .before .if2 .left), if<-yes _ _ _ _ (c .before .before .before .before .if3 .taken)) (cc)
-
-returns-4 : tie.Need-returns-4
-unfolding take
-returns-4 c = rw (← c .before .before .before .before .before .before .block-size .ensures, if=-no _ _ _ _ (c .before .before .before .before .before .before .before .if1 .left), if<-no _ _ _ _ (c .before .before .before .before .before .if2 .left), if<-no _ _ _ _ (c .before .before .before .before .if3 .left)) (cc)
+returns c = cc
 
 pub take-spec : {M : Type 1} → statement M
 take-spec =
     tie.close
     (tie.spec
-    returns
     (λ c κs. search needs)
-    returns-2
-    (λ c. search needs)
-    (λ c. search needs)
     (λ c κs. search needs)
     (λ c. search needs)
-    returns-3
-    (λ c. search needs)
-    (λ c κs. search needs)
-    (λ c. search needs)
-    returns-4)
+    returns)

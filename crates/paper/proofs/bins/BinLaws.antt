@@ -57,10 +57,3 @@ unfolding rebin
 count-rebin-front f z q y x =
     by= y z (λ e. let e' : z ≡ y = sym e in simp ifs (count-cons x q (f z) ∙ ap (λ (k : ℕ). if= q x 1 0 + count x (f k)) e'))
     (λ n. let n' : z ≢ y = (λ k. n (sym k)) in simp ifs (omega arith))
-
-pub count-rebin-tail : (f : ℕ → List ℕ) (z q : ℕ) (l : List ℕ) (y x : ℕ) → f z ≡ q ∷ l
-    → if= z y (if= q x 1 0) 0 + count x (rebin f z l y) ≡ count x (f y)
-unfolding rebin
-count-rebin-tail f z q l y x h =
-    by= y z (λ e. let e' : z ≡ y = sym e in simp ifs (sym (count-cons x q l) ∙ ap (count x) (sym h) ∙ ap (λ (k : ℕ). count x (f k)) e'))
-    (λ n. let n' : z ≢ y = (λ k. n (sym k)) in simp ifs (omega arith))

@@ -7,13 +7,13 @@ use native.Mathlib.Omega.{arith}
 use Rattle.paper.proofs.runs.Asking.{heldAt-in}
 use Rattle.paper.proofs.keeps.BackKeeps.{giveBack-small}
 use Rattle.paper.proofs.keeps.BackSmallKeeps.{giveBackSmall-is}
-use Rattle.paper.proofs.bins.Bins.{count-cons}
+use Rattle.paper.proofs.bins.Bins.{count-cons, count-here}
 use Rattle.paper.proofs.runs.HeldPlaces.{HeldHigh, heldAt}
 use Rattle.paper.proofs.runs.HeldWalk.{held-in}
 use Rattle.paper.proofs.keeps.Kept.{Kept, end-runs, kept-high, sized-high}
 use Rattle.paper.proofs.bins.Listed.{rebin-same}
 use Rattle.paper.proofs.runs.LowHigh.{high-hold, high-parts}
-use Rattle.paper.proofs.runs.Places.{first-in-high}
+use Rattle.paper.proofs.runs.Places.{listed-in-high}
 use Rattle.paper.proofs.runs.Splitting.{freeAt-mid, in-parts, sized-mid, sized-mid-parts, sumOf-append, total-mid}
 use Rattle.paper.proofs.honest.UndoBins.{count-rebin-less, rebin-back, rebin-fewer, rebin-small-firsts}
 use Rattle.paper.proofs.honest.Undone.{Undone, weight, weightOf}
@@ -124,6 +124,6 @@ module _ (s : State) (W : WellFormed s) (z x : ℕ) (l : List ℕ) (small : z < 
 
 pub undo-small : (s : State) → WellFormed s → (z x : ℕ) (l : List ℕ) → z < 72 → s .bins z ≡ x ∷ l → Undone s
 undo-small s W z x l small e =
-    let i = first-in-high s W z x l small e in
+    let i = listed-in-high s W z x small (omega (arith, ap (count x) e, count-here x l)) in
     let r = in-parts (s .high) (E s) 1 x (block z free) (i .0) (i .1) in
     undo-there s W z x l small e (r .0) (r .1) (r .2) (r .3)

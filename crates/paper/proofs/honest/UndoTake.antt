@@ -7,7 +7,7 @@ use native.Mathlib.Omega.{arith}
 use Rattle.heads.specs.Heads.{blockSize}
 use Rattle.paper.proofs.keeps.Kept.{Kept, end-runs, freeAt-runs, kept-by, sized-high, sized-low, sized-rest}
 use Rattle.paper.proofs.bins.Listed.{freeAt-append}
-use Rattle.paper.proofs.bins.Seek.{seek-zero}
+use Rattle.paper.proofs.bins.Smallest.{smallest-none}
 use Rattle.paper.proofs.runs.Splitting.{sumOf-append}
 use Rattle.paper.proofs.honest.Undone.{Undone, weight, weightOf}
 use Rattle.paper.proofs.runs.Walk.{sized-parts, total-append}
@@ -15,11 +15,11 @@ use Rattle.paper.proofs.sheet.Within.{Within, walk-within-joined, withi
 use Rattle.paper.specs.Bins.{first}
 use Rattle.paper.specs.Blocks.{Block, State, block, blocks, end, held, remainder, total}
 use Rattle.paper.specs.Governed.{blockWord, sheet, walk}
-use Rattle.paper.specs.Granting.{E, R, Result, cutLow, granted, smallFrom, smallestBin, take, takeLarge, takeSmall}
+use Rattle.paper.specs.Granting.{E, Result, carryOut, choose, chooseLarge, chooseSmall, cutHigh, cutLow, smallestBin, take}
 use Rattle.paper.specs.Honest.{takes}
 use Rattle.paper.specs.Runs.{sumOf}
 use Rattle.paper.specs.Sound.{High, Low, Sized, WellFormed, freeAt}
-use Rattle.words.specs.Choice.{if<-no, if<-yes, if=, if=-no, if=-yes}
+use Rattle.words.specs.Choice.{if<-no, if<-yes, if=-no, if=-yes}
 
 -- ---- the payload that needs a block of b
 
@@ -27,42 +27,35 @@ blockSize-back : (b : ℕ) → 8 ≤ b → b % 8 ≡ 0 → blockSize (b - 4) ≡
 unfolding blockSize
 blockSize-back b l e = omega arith
 
-take-large : (s : State) (b : ℕ) → 72 ≤ b → b % 8 ≡ 0 → take s (b - 4) ≡ takeLarge s b
-unfolding take
-take-large s b l e =
-    let k = blockSize-back b (omega arith) e in
-    if=-no (b - 4) 0 _ _ (omega arith) ∙ if<-no (blockSize (b - 4)) 72 _ _ (omega arith) ∙ ap (takeLarge s) k
-
-take-small : (s : State) (b : ℕ) → 8 ≤ b → b < 72 → b % 8 ≡ 0 → take s (b - 4) ≡ takeSmall s b
-unfolding take
-take-small s b m l e =
-    let k = blockSize-back b m e in
-    if=-no (b - 4) 0 _ _ (omega arith) ∙ if<-yes (blockSize (b - 4)) 72 _ _ (omega arith) ∙ ap (takeSmall s) k
-
 -- ---- every bin is empty
 
-module _ (s : State) (empty : (y : ℕ) → s .bins y ≡ []) (b : ℕ) where
+module _ (s : State) (empty : (y : ℕ) → s .bins y ≡ []) (b : ℕ) (eights : b % 8 ≡ 0) (room : b + 8 ≤ s .rest) where
   none-first : (y : ℕ) → first (s .bins y) ≡ 0
   unfolding first
   none-first y = ap first (empty y)
 
-  no-larger : (y : ℕ) → smallestBin s y ≡ 0
-  unfolding smallestBin
-  no-larger y = seek-zero (λ w. if= (first (s .bins w)) 0 0 w) (end s) y (λ w l. if=-yes (first (s .bins w)) 0 _ _ (none-first w))
-
-  cuts-low : b + 8 ≤ s .rest
-      → takeLarge s b
-      ≡ granted (R s) (record { top = s .top; low = s .low ++ block b held ∷ []; rest = s .rest - b; high = s .high; bins = s .bins })
-  unfolding takeLarge cutLow
+  cuts-low : 72 ≤ b → take s (b - 4) ≡ cutLow s b
+  unfolding take choose chooseLarge
   cuts-low l =
-      if=-yes (first (s .bins b)) 0 _ _ (none-first b) ∙ if=-yes (smallestBin s (b + 72)) 0 _ _ (no-larger (b + 72))
-      ∙ if<-no (s .rest) (b + 8) _ _ l
+      let k = blockSize-back b (omega arith) eights in
+      ap (carryOut s)
+      (if=-no (b - 4) 0 _ _ (omega arith)
+      ∙ if<-no (blockSize (b - 4)) 72 _ _ (omega arith)
+      ∙ ap (chooseLarge s) k
+      ∙ if=-yes (first (s .bins b)) 0 _ _ (none-first b)
+      ∙ if=-yes (smallestBin s (b + 72)) 0 _ _ (smallest-none s (b + 72) (λ u _. none-first u))
+      ∙ if<-no (s .rest) (b + 8) _ _ room)
 
-  cuts-high : b + 8 ≤ s .rest
-      → takeSmall s b
-      ≡ granted (E s - b) (record { top = s .top; low = s .low; rest = s .rest - b; high = block b held ∷ s .high; bins = s .bins })
-  unfolding takeSmall
-  cuts-high l = ap (smallFrom s b) (empty b) ∙ if<-no (s .rest) (b + 8) _ _ l
+  cuts-high : 8 ≤ b → b < 72 → take s (b - 4) ≡ cutHigh s b
+  unfolding take choose chooseSmall
+  cuts-high m l =
+      let k = blockSize-back b m eights in
+      ap (carryOut s)
+      (if=-no (b - 4) 0 _ _ (omega arith)
+      ∙ if<-yes (blockSize (b - 4)) 72 _ _ (omega arith)
+      ∙ ap (chooseSmall s) k
+      ∙ if=-yes (first (s .bins b)) 0 _ _ (none-first b)
+      ∙ if<-no (s .rest) (b + 8) _ _ room)
 
 -- ---- the last large block
 
@@ -93,9 +86,10 @@ module _ (s : State) (W : WellFormed s) (empty : (y : ℕ) → s .bins y ≡ [])
       ))
 
   leads-large : take before-large (z - 4) .state ≡ s
+  unfolding cutLow
   leads-large =
       let e : z + s .rest - z ≡ s .rest = omega arith in
-      ap (λ (r : Result). r .state) (take-large before-large z large (parts-large .1 .0 .1) ∙ cuts-low before-large empty z (omega (arith, sized-rest s W)))
+      ap (λ (r : Result). r .state) (cuts-low before-large empty z (parts-large .1 .0 .1) (omega (arith, sized-rest s W)) large)
       ∙ (λ i. record { top = s .top; low = sym is i; rest = e i; high = s .high; bins = s .bins })
 
   blocks-large : blocks s ≡ us ++ block z held ∷ block (s .rest) remainder ∷ s .high
@@ -161,11 +155,11 @@ module _ (s : State) (W : WellFormed s) (empty : (y : ℕ) → s .bins y ≡ [])
       ))
 
   leads-small : take before-small (z - 4) .state ≡ s
+  unfolding cutHigh
   leads-small =
       let e : s .rest + z - z ≡ s .rest = omega arith in
       ap (λ (r : Result). r .state)
-      (take-small before-small z (parts-small .0 .0) (omega (arith, high-small .0)) (parts-small .0 .1)
-      ∙ cuts-high before-small empty z (omega (arith, sized-rest s W)))
+      (cuts-high before-small empty z (parts-small .0 .1) (omega (arith, sized-rest s W)) (parts-small .0 .0) (omega (arith, high-small .0)))
       ∙ (λ i. record { top = s .top; low = s .low; rest = e i; high = sym is i; bins = s .bins })
 
   blocks-small : blocks s ≡ s .low ++ block (s .rest) remainder ∷ block z held ∷ vs

@@ -8,8 +8,8 @@ use native.Mathlib.Omega.{arith}
 use Rattle.heads.specs.Heads.{blockSize}
 use Rattle.paper.proofs.runs.Asking.{heldAt-in}
 use Rattle.paper.proofs.runs.HeldPlaces.{heldAt}
+use Rattle.paper.proofs.keeps.Choices.{by-choices}
 use Rattle.paper.proofs.keeps.Kept.{sized-high, sized-low}
-use Rattle.paper.proofs.bins.Smallest.{smallest-found}
 use Rattle.paper.proofs.runs.Places.{first-in-high, in-apart, used-in-low}
 use Rattle.paper.proofs.runs.Replaced.{in-replaced}
 use Rattle.paper.proofs.keeps.TakeKeeps.{take-well-formed}
@@ -17,10 +17,9 @@ use Rattle.paper.proofs.runs.Walk.{In, flagPast, in-left, in-mid}
 use Rattle.paper.specs.declared.Answer.the-variants.{Done}
 use Rattle.paper.specs.Bins.{first, used}
 use Rattle.paper.specs.Blocks.{Block, State, block, blocks, free, held, remainder, size}
-use Rattle.paper.specs.Granting.{E, R, Result, cutHigh, cutLow, granted, pop, refused, smallFrom, smallestBin, take, takeLarge, takePart, takeSmall, takeWhole}
+use Rattle.paper.specs.Granting.{E, R, Result, carryOut, cutHigh, cutLow, granted, refused, take, takeFirst, takePart, takeWhole}
 use Rattle.paper.specs.Runs.{replace, under}
 use Rattle.paper.specs.Sound.{WellFormed}
-use Rattle.words.specs.Choice.{by<, by=, ifs}
 
 -- b bytes of s that start at a are in no held block
 abbrev pub Free : State → ℕ → ℕ → Type 0
@@ -71,39 +70,33 @@ module _ (s : State) (W : WellFormed s) (b : ℕ) where
       (free-not-held b) q b (omega arith) (omega arith)
 
   -- ---- small
-  cutHigh-grants : Grants s b (cutHigh s b)
-  cutHigh-grants =
-      by< (s .rest) (b + 8) (λ l. simp ifs (refused-grants s b 4))
-      (λ l. let e : E s - b ≡ R s + (s .rest - b) = omega arith in
-      simp ifs (granted-grants s b (E s - b)
-      (record { top = s .top; low = s .low; rest = s .rest - b; high = block b held ∷ s .high; bins = s .bins }) 1
+  cutHigh-grants : b + 8 ≤ s .rest → Grants s b (cutHigh s b)
+  unfolding cutHigh
+  cutHigh-grants l =
+      let e : E s - b ≡ R s + (s .rest - b) = omega arith in
+      granted-grants s b (E s - b) (cutHigh s b .state) 1
       (in-mid (s .low) (block (s .rest - b) remainder ∷ block b held ∷ s .high) 168 1 (E s - b) (block b held) 1 (inr (inl (e, refl, refl))))
-      (rest-free (E s - b) (omega arith) (omega arith))))
+      (rest-free (E s - b) (omega arith) (omega arith))
 
-  takeSmall-grants : b < 72 → Grants s b (takeSmall s b)
-  unfolding takeSmall
-  takeSmall-grants small = go (s .bins b) refl
-    where
-      go : (l : List ℕ) → s .bins b ≡ l → Grants s b (smallFrom s b l)
-      go [] e = cutHigh-grants
-      go (q ∷ l) e =
-          let i = first-in-high s W b q l small e in
-          granted-grants s b q (pop s b q l .state) (flagPast 1 (under (s .high) (E s) q))
-          (in-mid (s .low) (block (s .rest) remainder ∷ replace (s .high) (E s) q (q + b) (block b held ∷ [])) 168 1 q (block b held)
-          (flagPast 1 (under (s .high) (E s) q))
-          (inr (in-replaced (s .high) (E s) 1 q (block b free) (i .0) (sized-high s W) (i .1) (block b held) [])))
-          (high-free q (i .0) (i .1))
+  takeFirst-grants : b < 72 → first (s .bins b) ≢ 0 → Grants s b (takeFirst s b)
+  unfolding takeFirst
+  takeFirst-grants small n =
+      let q = first (s .bins b) in
+      let i = first-in-high s W b small n in
+      granted-grants s b q (takeFirst s b .state) (flagPast 1 (under (s .high) (E s) q))
+      (in-mid (s .low) (block (s .rest) remainder ∷ replace (s .high) (E s) q (q + b) (block b held ∷ [])) 168 1 q (block b held)
+      (flagPast 1 (under (s .high) (E s) q))
+      (inr (in-replaced (s .high) (E s) 1 q (block b free) (i .0) (sized-high s W) (i .1) (block b held) [])))
+      (high-free q (i .0) (i .1))
 
   -- ---- large
-  cutLow-grants : Grants s b (cutLow s b)
+  cutLow-grants : b + 8 ≤ s .rest → Grants s b (cutLow s b)
   unfolding cutLow
-  cutLow-grants =
-      by< (s .rest) (b + 8) (λ l. simp ifs (refused-grants s b 4))
-      (λ l. simp ifs (granted-grants s b (R s)
-      (record { top = s .top; low = s .low ++ block b held ∷ []; rest = s .rest - b; high = s .high; bins = s .bins }) (flagPast 1 (s .low))
+  cutLow-grants l =
+      granted-grants s b (R s) (cutLow s b .state) (flagPast 1 (s .low))
       (in-left (s .low ++ block b held ∷ []) (block (s .rest - b) remainder ∷ s .high) 168 1 (R s) (block b held) (flagPast 1 (s .low))
       (in-mid (s .low) (block b held ∷ []) 168 1 (R s) (block b held) (flagPast 1 (s .low)) (inl (refl, refl, refl))))
-      (rest-free (R s) (omega arith) (omega arith))))
+      (rest-free (R s) (omega arith) (omega arith))
 
   -- the low b bytes of a free block of size z, with some blocks above them
   low-grants : (z q P : ℕ) (new : List Block) → b ≤ z → In (s .low) 168 1 q (block z free) P → (s' : State)
@@ -127,21 +120,20 @@ module _ (s : State) (W : WellFormed s) (b : ℕ) where
         let i = used-in-low s W z (omega arith) n in
         low-grants z (used (s .bins z)) (i .0) (block (z - b) free ∷ []) (omega arith) (i .1) (takePart s z b .state) refl
 
-    takeLarge-grants : Grants s b (takeLarge s b)
-    unfolding takeLarge
-    takeLarge-grants =
-        by= (first (s .bins b)) 0
-        (λ e. by= (smallestBin s (b + 72)) 0 (λ f. simp ifs cutLow-grants)
-        (λ f. let r = smallest-found s (b + 72) f in simp ifs (takePart-grants (smallestBin s (b + 72)) (r .0) (r .1))))
-        (λ n. simp ifs (takeWhole-grants n))
-
 -- ---- any payload
 take-places : (s : State) → WellFormed s → (payload : ℕ) → Grants s (blockSize payload) (take s payload)
 unfolding take
 take-places s W payload =
-    by= payload 0 (λ z. simp ifs (refused-grants s (blockSize payload) 3))
-    (λ n. by< (blockSize payload) 72 (λ l. simp ifs (takeSmall-grants s W (blockSize payload) l))
-    (λ l. simp ifs (takeLarge-grants s W (blockSize payload) l)))
+    let b = blockSize payload in
+    by-choices s payload (λ c. Grants s b (carryOut s c))
+    (record {
+      refused = refused-grants s b;
+      from-its-bin = takeFirst-grants s W b;
+      from-high-end = λ l r. cutHigh-grants s W b r;
+      from-exact = takeWhole-grants s W b;
+      from-larger = takePart-grants s W b;
+      from-low-end = λ l r. cutLow-grants s W b r;
+    })
 
 module _ (s : State) (W : WellFormed s) (payload o : ℕ) (e : take s payload .answer ≡ Done o) where
   pub take-past-head : 4 ≤ o

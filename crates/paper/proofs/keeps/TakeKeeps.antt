@@ -1,18 +1,16 @@
 -- A take keeps every well-formed state well formed, whatever is asked for, and a refused one changes nothing: by the cases of its rule.
-use mathlib.Core.List.{List, [], _∷_}
 use mathlib.Core.Path.{_≡_, refl}
-use Prim.Native.Nat.{_%_, _+_, _≤_, ℕ}
+use Prim.Native.Nat.{_%_, _≤_, ℕ}
 use native.Mathlib.Omega.{arith}
 use Rattle.heads.specs.Heads.{blockSize}
+use Rattle.paper.proofs.keeps.Choices.{by-choices}
 use Rattle.paper.proofs.keeps.Kept.{Kept, kept-same}
-use Rattle.paper.proofs.keeps.TakeLargeKeeps.{takeLarge-keeps}
-use Rattle.paper.proofs.keeps.TakeSmallKeeps.{takeSmall-keeps}
+use Rattle.paper.proofs.keeps.TakeLargeKeeps.{cutLow-keeps, takePart-keeps, takeWhole-keeps}
+use Rattle.paper.proofs.keeps.TakeSmallKeeps.{cutHigh-keeps, takeFirst-keeps}
 use Rattle.paper.specs.declared.Answer.the-variants.{Refused}
-use Rattle.paper.specs.Bins.{first}
 use Rattle.paper.specs.Blocks.{State, end}
-use Rattle.paper.specs.Granting.{Result, cutHigh, cutLow, granted, refused, smallFrom, smallestBin, take, takeLarge, takePart, takeSmall, takeWhole}
+use Rattle.paper.specs.Granting.{Result, carryOut, cutHigh, cutLow, granted, refused, take, takeFirst, takePart, takeWhole}
 use Rattle.paper.specs.Sound.{WellFormed}
-use Rattle.words.specs.Choice.{by<, by=, ifs}
 
 -- ---- the block that a payload needs
 pub blockSize-least : (payload : ℕ) → 8 ≤ blockSize payload
@@ -27,10 +25,18 @@ blockSize-eights payload = omega arith
 pub take-keeps : (s : State) → WellFormed s → (payload : ℕ) → Kept s (take s payload .state)
 unfolding take
 take-keeps s W payload =
-    let e = blockSize-eights payload in
-    by= payload 0 (λ z. simp ifs (kept-same s W))
-    (λ n. by< (blockSize payload) 72 (λ l. simp ifs (takeSmall-keeps s W (blockSize payload) l (blockSize-least payload) e))
-    (λ l. simp ifs (takeLarge-keeps s W (blockSize payload) l e)))
+    let b = blockSize payload in
+    let least = blockSize-least payload in
+    let eights = blockSize-eights payload in
+    by-choices s payload (λ c. Kept s (carryOut s c .state))
+    (record {
+      refused = λ k. kept-same s W;
+      from-its-bin = λ l n. takeFirst-keeps s W b l least eights n;
+      from-high-end = λ l r. cutHigh-keeps s W b l least eights r;
+      from-exact = λ l n. takeWhole-keeps s W b l eights n;
+      from-larger = λ l z m n. takePart-keeps s W b l eights z m n;
+      from-low-end = λ l r. cutLow-keeps s W b l eights r;
+    })
 
 pub take-well-formed : (s : State) → WellFormed s → (payload : ℕ) → WellFormed (take s payload .state)
 take-well-formed s W payload = take-keeps s W payload .well-formed
@@ -51,39 +57,15 @@ granted-same s q s' k e = absurd (let z : _≡_ {A = ℕ} 0 1 = cc in omega arit
 refused-same : (s : State) (j : ℕ) → SameIfRefused s (refused j s)
 refused-same s j k e = refl
 
-module _ (s : State) (b : ℕ) where
-  cutHigh-same : SameIfRefused s (cutHigh s b)
-  cutHigh-same = by< (s .rest) (b + 8) (λ l. simp ifs (refused-same s 4)) (λ l. simp ifs (granted-same s _ _))
-
-  takeSmall-same : SameIfRefused s (takeSmall s b)
-  unfolding takeSmall
-  takeSmall-same = go (s .bins b)
-    where
-      go : (l : List ℕ) → SameIfRefused s (smallFrom s b l)
-      go [] = cutHigh-same
-      go (q ∷ l) = granted-same s q _
-
-  cutLow-same : SameIfRefused s (cutLow s b)
-  unfolding cutLow
-  cutLow-same = by< (s .rest) (b + 8) (λ l. simp ifs (refused-same s 4)) (λ l. simp ifs (granted-same s _ _))
-
-  takeWhole-same : SameIfRefused s (takeWhole s b)
-  unfolding takeWhole
-  takeWhole-same = granted-same s _ _
-
-  takePart-same : (z : ℕ) → SameIfRefused s (takePart s z b)
-  unfolding takePart
-  takePart-same z = granted-same s _ _
-
-  takeLarge-same : SameIfRefused s (takeLarge s b)
-  unfolding takeLarge
-  takeLarge-same =
-      by= (first (s .bins b)) 0
-      (λ e. by= (smallestBin s (b + 72)) 0 (λ f. simp ifs cutLow-same) (λ f. simp ifs (takePart-same (smallestBin s (b + 72)))))
-      (λ n. simp ifs takeWhole-same)
-
 pub take-refused : (s : State) (payload k : ℕ) → take s payload .answer ≡ Refused k → take s payload .state ≡ s
-unfolding take
+unfolding take takeFirst cutHigh takeWhole takePart cutLow
 take-refused s payload =
-    by= payload 0 (λ z. simp ifs (refused-same s 3))
-    (λ n. by< (blockSize payload) 72 (λ l. simp ifs (takeSmall-same s (blockSize payload))) (λ l. simp ifs (takeLarge-same s (blockSize payload))))
+    by-choices s payload (λ c. SameIfRefused s (carryOut s c))
+    (record {
+      refused = refused-same s;
+      from-its-bin = λ l n. granted-same s _ _;
+      from-high-end = λ l r. granted-same s _ _;
+      from-exact = λ l n. granted-same s _ _;
+      from-larger = λ l z m n. granted-same s _ _;
+      from-low-end = λ l r. granted-same s _ _;
+    })

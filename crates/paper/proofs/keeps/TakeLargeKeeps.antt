@@ -5,22 +5,20 @@ use mathlib.Core.Path.{_≡_, ap}
 use Prim.Native.Nat.{_%_, _+_, _-_, _≤_, ℕ}
 use native.Mathlib.Omega.{arith}
 use Rattle.paper.proofs.bins.BinLaws.{count-rebin-enter, count-rebin-leave, used-counts-where-first}
-use Rattle.paper.proofs.keeps.Kept.{Kept, freeAt-runs, kept-by, kept-low, kept-same, sized-high, sized-low, sized-rest}
+use Rattle.paper.proofs.keeps.Kept.{Kept, freeAt-runs, kept-by, kept-low, sized-high, sized-low, sized-rest}
 use Rattle.paper.proofs.bins.Listed.{freeAt-append}
 use Rattle.paper.proofs.runs.LowHigh.{low-append, low-cut, low-hold}
 use Rattle.paper.proofs.runs.Places.{used-in-low}
 use Rattle.paper.proofs.runs.Replaced.{replaced-by, replaced-freeAt, replaced-sized, replaced-total}
-use Rattle.paper.proofs.bins.Smallest.{smallest-found}
 use Rattle.paper.proofs.runs.Walk.{in-sized, sized-append, total-append}
 use Rattle.paper.specs.Bins.{enter, first, leave, rebin, used}
 use Rattle.paper.specs.Blocks.{Block, State, block, free, held, total}
-use Rattle.paper.specs.Granting.{E, cutLow, smallestBin, takeLarge, takePart, takeWhole}
+use Rattle.paper.specs.Granting.{E, cutLow, takePart, takeWhole}
 use Rattle.paper.specs.Runs.{from, replace, under}
 use Rattle.paper.specs.Sound.{Low, WellFormed, freeAt}
-use Rattle.words.specs.Choice.{by<, by=, ifs}
 
 module _ (s : State) (W : WellFormed s) (b : ℕ) (large : 72 ≤ b) (eights : b % 8 ≡ 0) where
-  takeWhole-keeps : first (s .bins b) ≢ 0 → Kept s (takeWhole s b .state)
+  pub takeWhole-keeps : first (s .bins b) ≢ 0 → Kept s (takeWhole s b .state)
   unfolding takeWhole freeAt
   takeWhole-keeps n =
       let q = used (s .bins b) in
@@ -36,7 +34,7 @@ module _ (s : State) (W : WellFormed s) (b : ℕ) (large : 72 ≤ b) (eights : b
         replaced-freeAt (s .low) 168 1 q (block b free) (i .0) (sized-low s W) (i .1) (block b held ∷ []) (omega arith) y x,
       ))
 
-  takePart-keeps : (z : ℕ) → b + 72 ≤ z → first (s .bins z) ≢ 0 → Kept s (takePart s z b .state)
+  pub takePart-keeps : (z : ℕ) → b + 72 ≤ z → first (s .bins z) ≢ 0 → Kept s (takePart s z b .state)
   unfolding takePart freeAt
   takePart-keeps z l n =
       let q = used (s .bins z) in
@@ -57,12 +55,11 @@ module _ (s : State) (W : WellFormed s) (b : ℕ) (large : 72 ≤ b) (eights : b
         replaced-freeAt (s .low) 168 1 q (block z free) (i .0) (sized-low s W) (i .1) new (omega arith) y x,
       ))
 
-  cutLow-keeps : Kept s (cutLow s b .state)
+  pub cutLow-keeps : b + 8 ≤ s .rest → Kept s (cutLow s b .state)
   unfolding cutLow freeAt
-  cutLow-keeps =
-      by< (s .rest) (b + 8) (λ l. simp ifs (kept-same s W))
-      (λ l. let t = total-append (s .low) (block b held ∷ []) in
-      simp ifs (kept-by s W (s .low ++ block b held ∷ []) (s .rest - b) (s .high) (s .bins)
+  cutLow-keeps l =
+      let t = total-append (s .low) (block b held ∷ []) in
+      kept-by s W (s .low ++ block b held ∷ []) (s .rest - b) (s .high) (s .bins)
       (low-append (s .low) (block b held ∷ []) (W .low-ok) (large, tt)) (W .high-ok)
       (sized-append (s .low) (block b held ∷ []) (sized-low s W) ((omega arith, eights), tt))
       (omega (arith, sized-rest s W)) (sized-high s W) (omega arith)
@@ -73,12 +70,4 @@ module _ (s : State) (W : WellFormed s) (b : ℕ) (large : 72 ≤ b) (eights : b
         freeAt-runs s y x,
         freeAt-append (s .low) (block b held ∷ []) 168 y x,
         ap (λ (k : ℕ). freeAt (s .high) k y x) e,
-      ))))
-
-  pub takeLarge-keeps : Kept s (takeLarge s b .state)
-  unfolding takeLarge
-  takeLarge-keeps =
-      by= (first (s .bins b)) 0
-      (λ e. by= (smallestBin s (b + 72)) 0 (λ f. simp ifs cutLow-keeps)
-      (λ f. let r = smallest-found s (b + 72) f in simp ifs (takePart-keeps (smallestBin s (b + 72)) (r .0) (r .1))))
-      (λ n. simp ifs (takeWhole-keeps n))
+      ))

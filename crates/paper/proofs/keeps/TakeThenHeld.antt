@@ -6,8 +6,8 @@ use mathlib.Core.Path.{_∙_, _≡_, ap, refl, sym}
 use Prim.Native.Nat.{_%_, _+_, _-_, _<_, _≤_, ℕ}
 use native.Mathlib.Omega.{arith}
 use Rattle.heads.specs.Heads.{blockSize}
-use Rattle.paper.proofs.bins.Smallest.{smallest-found}
 use Rattle.paper.proofs.keeps.BackThenHeld.{Released, free-none, held-one, held-runs}
+use Rattle.paper.proofs.keeps.Choices.{by-choices}
 use Rattle.paper.proofs.keeps.Kept.{sized-high, sized-low}
 use Rattle.paper.proofs.keeps.TakeGrants.{take-held, take-past-head}
 use Rattle.paper.proofs.keeps.TakeKeeps.{blockSize-eights, blockSize-least, take-refused, take-well-formed}
@@ -20,11 +20,11 @@ use Rattle.paper.specs.declared.Answer.{Answer}
 use Rattle.paper.specs.declared.Answer.the-variants.{Done, Refused}
 use Rattle.paper.specs.Bins.{first, used}
 use Rattle.paper.specs.Blocks.{Block, State, block, free, held, total}
-use Rattle.paper.specs.Granting.{E, R, Result, cutHigh, cutLow, granted, pop, refused, smallFrom, smallestBin, take, takeLarge, takePart, takeSmall, takeWhole}
+use Rattle.paper.specs.Granting.{E, R, Result, carryOut, cutHigh, cutLow, granted, refused, take, takeFirst, takePart, takeWhole}
 use Rattle.paper.specs.Layout.{blocks-at, large}
 use Rattle.paper.specs.Runs.{heldSize, replace, startsAt}
 use Rattle.paper.specs.Sound.{Sized, WellFormed}
-use Rattle.words.specs.Choice.{by<, by=, if<-no, if<-yes, if=, if=-no, if=-yes, ifs}
+use Rattle.words.specs.Choice.{by<, by=, if<-no, if<-yes, if=, if=-no, if=-yes}
 
 -- what a grant of b bytes adds, if it is one: the block that starts 4 below what is answered
 abbrev Adds : State → ℕ → Result → Type 0
@@ -53,30 +53,28 @@ added s s' W W' a b h x = omega (arith, held-runs s W x, held-runs s' W' x, h x)
 
 module _ (s : State) (W : WellFormed s) (b : ℕ) (eights : b % 8 ≡ 0) (least : 8 ≤ b) where
   -- ---- small
-  abbrev cutHighState : State
-  cutHighState = record { top = s .top; low = s .low; rest = s .rest - b; high = block b held ∷ s .high; bins = s .bins }
-
-  cutHigh-added : b + 8 ≤ s .rest → WellFormed cutHighState → Released cutHighState s (E s - b) b
-  cutHigh-added l w =
-      added s cutHighState W w (E s - b) b
-      (λ x. let e : E cutHighState ≡ E s - b = omega arith in
-      let f : E cutHighState + b ≡ E s = omega arith in
+  cutHigh-adds : b + 8 ≤ s .rest → Adds s b (cutHigh s b)
+  unfolding cutHigh
+  cutHigh-adds l =
+      let s' = cutHigh s b .state in
+      granted-adds s b (E s - b) s'
+      (λ w. added s s' W w (E s - b) b
+      (λ x. let e : E s' ≡ E s - b = omega arith in
+      let f : E s' + b ≡ E s = omega arith in
       omega (
         arith,
-        starts-cons heldSize (block b held) (s .high) (E cutHighState) x (omega arith),
+        starts-cons heldSize (block b held) (s .high) (E s') x (omega arith),
         ap (λ (k : ℕ). if= {A = ℕ} k x b 0) e,
         ap (λ (k : ℕ). startsAt heldSize (s .high) k x) f,
-      ))
+      )))
 
-  cutHigh-adds : Adds s b (cutHigh s b)
-  cutHigh-adds =
-      by< (s .rest) (b + 8) (λ l. simp ifs (refused-adds s b 4)) (λ l. simp ifs (granted-adds s b (E s - b) cutHighState (cutHigh-added l)))
-
-  pop-adds : b < large → (q : ℕ) (l : List ℕ) → s .bins b ≡ q ∷ l → Adds s b (pop s b q l)
-  pop-adds small q l e =
-      granted-adds s b q (pop s b q l .state)
-      (λ w. added s (pop s b q l .state) W w q b
-      (λ x. let i = first-in-high s W b q l small e in
+  takeFirst-adds : b < large → first (s .bins b) ≢ 0 → Adds s b (takeFirst s b)
+  unfolding takeFirst
+  takeFirst-adds small n =
+      let q = first (s .bins b) in
+      granted-adds s b q (takeFirst s b .state)
+      (λ w. added s (takeFirst s b .state) W w q b
+      (λ x. let i = first-in-high s W b small n in
       omega (
         arith,
         replaced-starts (s .high) (E s) 1 q (block b free) (i .0) (sized-high s W) (i .1) heldSize (block b held ∷ []) ((least, eights), tt) (omega arith) x,
@@ -84,33 +82,20 @@ module _ (s : State) (W : WellFormed s) (b : ℕ) (eights : b % 8 ≡ 0) (least 
         free-none b q x,
       )))
 
-  takeSmall-adds : b < large → Adds s b (takeSmall s b)
-  unfolding takeSmall
-  takeSmall-adds small = go (s .bins b) refl
-    where
-      go : (l : List ℕ) → s .bins b ≡ l → Adds s b (smallFrom s b l)
-      go [] e = cutHigh-adds
-      go (q ∷ l) e = pop-adds small q l e
-
   -- ---- large
-  abbrev cutLowState : State
-  cutLowState = record { top = s .top; low = s .low ++ block b held ∷ []; rest = s .rest - b; high = s .high; bins = s .bins }
-
-  cutLow-added : b + 8 ≤ s .rest → WellFormed cutLowState → Released cutLowState s (R s) b
-  cutLow-added l w =
-      added s cutLowState W w (R s) b
-      (λ x. let e : E cutLowState ≡ E s = omega (arith, total-append (s .low) (block b held ∷ [])) in
+  cutLow-adds : b + 8 ≤ s .rest → Adds s b (cutLow s b)
+  unfolding cutLow
+  cutLow-adds l =
+      let s' = cutLow s b .state in
+      granted-adds s b (R s) s'
+      (λ w. added s s' W w (R s) b
+      (λ x. let e : E s' ≡ E s = omega (arith, total-append (s .low) (block b held ∷ [])) in
       omega (
         arith,
         starts-append heldSize (s .low) (block b held ∷ []) blocks-at x (sized-low s W),
         held-one b (R s) x,
         ap (λ (k : ℕ). startsAt heldSize (s .high) k x) e,
-      ))
-
-  cutLow-adds : Adds s b (cutLow s b)
-  unfolding cutLow
-  cutLow-adds =
-      by< (s .rest) (b + 8) (λ l. simp ifs (refused-adds s b 4)) (λ l. simp ifs (granted-adds s b (R s) cutLowState (cutLow-added l)))
+      )))
 
   -- the low b bytes of a free block of size z, with some blocks above them that are not held
   low-added : (z q P : ℕ) (new : List Block) → In (s .low) blocks-at 1 q (block z free) P → Sized new → total new ≡ z
@@ -150,22 +135,21 @@ module _ (s : State) (W : WellFormed s) (b : ℕ) (eights : b % 8 ≡ 0) (least 
         ((least, eights), ((omega arith, omega (arith, y .1)), tt)) (omega arith) (λ x. cut-one b (z - b) (used (s .bins z)) x (omega arith))
         (takePart s z b .state) refl refl refl)
 
-    takeLarge-adds : Adds s b (takeLarge s b)
-    unfolding takeLarge
-    takeLarge-adds =
-        by= (first (s .bins b)) 0
-        (λ e. by= (smallestBin s (b + large)) 0 (λ f. simp ifs cutLow-adds)
-        (λ f. let r = smallest-found s (b + large) f in simp ifs (takePart-adds (smallestBin s (b + large)) (r .0) (r .1))))
-        (λ n. simp ifs (takeWhole-adds n))
-
 take-adds : (s : State) → WellFormed s → (payload : ℕ) → Adds s (blockSize payload) (take s payload)
 unfolding take
 take-adds s W payload =
+    let b = blockSize payload in
     let e = blockSize-eights payload in
     let l = blockSize-least payload in
-    by= payload 0 (λ z. simp ifs (refused-adds s (blockSize payload) 3))
-    (λ n. by< (blockSize payload) large (λ m. simp ifs (takeSmall-adds s W (blockSize payload) e l m))
-    (λ m. simp ifs (takeLarge-adds s W (blockSize payload) e l m)))
+    by-choices s payload (λ c. Adds s b (carryOut s c))
+    (record {
+      refused = refused-adds s b;
+      from-its-bin = takeFirst-adds s W b e l;
+      from-high-end = λ _ r. cutHigh-adds s W b e l r;
+      from-exact = takeWhole-adds s W b e l;
+      from-larger = takePart-adds s W b e l;
+      from-low-end = λ _ r. cutLow-adds s W b e l r;
+    })
 
 -- ---- any payload
 

@@ -1,11 +1,11 @@
 -- Where blocks are in a well-formed state: a listed one in the run that its size says, and no two blocks of a run on one byte.
 use mathlib.Core.List.{List, [], _∷_}
 use mathlib.Core.Logic.{_≢_, _⊎_, inl, inr}
-use mathlib.Core.Path.{_∙_, _≡_, ap, sym}
+use mathlib.Core.Path.{_∙_, _≡_, ap, refl, sym}
 use Prim.Native.Nat.{_+_, _<_, _≤_, ℕ}
 use native.Mathlib.Omega.{arith}
 use Rattle.paper.proofs.bins.BinLaws.{used-counts-where-first}
-use Rattle.paper.proofs.bins.Bins.{count-here}
+use Rattle.paper.proofs.bins.Bins.{first-count}
 use Rattle.paper.proofs.bins.Listed.{loose}
 use Rattle.paper.proofs.runs.Walk.{In, flagPast, in-low, in-split}
 use Rattle.paper.specs.Bins.{count, first, used}
@@ -69,8 +69,8 @@ module _ (s : State) (W : WellFormed s) where
   pub used-in-low : (z : ℕ) → 72 ≤ z → first (s .bins z) ≢ 0 → (P : ℕ) × In (s .low) 168 1 (used (s .bins z)) (block z free) P
   used-in-low z l n = listed-in-low z (used (s .bins z)) l (used-counts-where-first (s .bins z) n)
 
-  pub first-in-high : (z q : ℕ) (l : List ℕ) → z < 72 → s .bins z ≡ q ∷ l → (P : ℕ) × In (s .high) (E s) 1 q (block z free) P
-  first-in-high z q l h e = listed-in-high z q h (omega (arith, ap (count q) e, count-here q l))
+  pub first-in-high : (z : ℕ) → z < 72 → first (s .bins z) ≢ 0 → (P : ℕ) × In (s .high) (E s) 1 (first (s .bins z)) (block z free) P
+  first-in-high z l n = listed-in-high z (first (s .bins z)) l (first-count (s .bins z) (first (s .bins z)) refl n)
 
 -- ---- two blocks of a run are one, or apart
 pub in-apart : (xs : List Block) (p P q : ℕ) (b : Block) (P' r : ℕ) (c : Block) (P'' : ℕ) → In xs p P q b P' → In xs p P r c P''

@@ -5,20 +5,18 @@ use mathlib.Core.Path.{_∙_, _≡_, ap, refl, subst, sym}
 use Prim.Native.Nat.{_%_, _+_, _≤_, ℕ}
 use Rattle.paper.proofs.bins.BinLaws.{used-counts-where-first}
 use Rattle.paper.proofs.runs.Flags.{low-flag}
-use Rattle.paper.proofs.keeps.Kept.{Kept, sized-low}
+use Rattle.paper.proofs.keeps.Kept.{sized-low}
 use Rattle.paper.proofs.bins.Listed.{loose, start}
 use Rattle.paper.proofs.reads.LooseReads.{listed-size}
 use Rattle.paper.proofs.runs.Places.{used-in-low}
 use Rattle.paper.proofs.runs.Shapes.{low-free}
 use Rattle.paper.proofs.runs.Splitting.{in-is, in-replace, in-starts}
-use Rattle.paper.proofs.keeps.TakeLargeKeeps.{takeLarge-keeps}
 use Rattle.paper.proofs.runs.Walk.{In, flagPast, in-mid}
 use Rattle.paper.specs.Bins.{first, used}
 use Rattle.paper.specs.Blocks.{Block, State, block, blocks, end, free, held, remainder, total}
-use Rattle.paper.specs.Granting.{Result, smallestBin, takeLarge, takePart, takeWhole}
 use Rattle.paper.specs.Runs.{from, replace, under}
 use Rattle.paper.specs.Sound.{Low, WellFormed}
-use Rattle.words.specs.Choice.{if<-no, if=-no, if=-yes}
+use Rattle.words.specs.Choice.{if<-no}
 
 pub record Around (s : State) (z : ℕ) : Type 0 where
   pub under-it : List Block
@@ -69,16 +67,3 @@ above-in s z A large =
     (in-mid (A .under-it) (block z free ∷ block (A .y) held ∷ (A .over ++ block (s .rest) remainder ∷ s .high)) 168 1 (used (s .bins z) + z)
     (block (A .y) held) 0
     (inr (inl (ap (λ (k : ℕ). k + z) (sym (A .starts)), refl, sym (if<-no z 72 1 0 large))))))
-
--- ---- what the two takes from a bin keep
-module _ (s : State) (W : WellFormed s) (b : ℕ) (large : 72 ≤ b) (eights : b % 8 ≡ 0) where
-  pub takeWhole-kept : first (s .bins b) ≢ 0 → Kept s (takeWhole s b .state)
-  unfolding takeLarge
-  takeWhole-kept n =
-      subst (λ (r : Result). Kept s (r .state)) (if=-no (first (s .bins b)) 0 _ _ n) (takeLarge-keeps s W b large eights)
-
-  pub takePart-kept : first (s .bins b) ≡ 0 → smallestBin s (b + 72) ≢ 0 → Kept s (takePart s (smallestBin s (b + 72)) b .state)
-  unfolding takeLarge
-  takePart-kept e n =
-      subst (λ (r : Result). Kept s (r .state)) (if=-yes (first (s .bins b)) 0 _ _ e ∙ if=-no (smallestBin s (b + 72)) 0 _ _ n)
-      (takeLarge-keeps s W b large eights)
