@@ -2,6 +2,7 @@
 use mathlib.Core.Path.{_≡_, sym, _∙_}
 use mathlib.Core.Bool.{false}
 use Prim.Native.Nat.{ℕ, _%_, _≤_, _<_}
+use native.Mathlib.Omega.{arith}
 use lib.Dec.{eqb}
 use borrow.Author.Tests.{eq-eqb, ne-eqb}
 use Rattle.words.specs.Choice.{if<-yes, if<-no, if=-yes, if=-no, by=}
@@ -26,5 +27,5 @@ within n h k =
 pub allowed-spec : {M : Type 1} → statement M
 allowed-spec =
     tie.close
-    (tie.spec (λ c. short _ (c .if1 .taken)) (λ c. long _ (c .before .if1 .left) (c .if2 .taken))
-    (λ c. within _ (c .before .if1 .left) (c .if2 .left)))
+    (tie.spec (λ c. short _ (omega (arith, c .if1 .taken))) (λ c. long _ (omega (arith, c .before .if1 .left, c .if2 .taken)) (c .if2 .taken))
+    (λ c. within _ (omega (arith, c .before .if1 .left)) (c .if2 .left)))
