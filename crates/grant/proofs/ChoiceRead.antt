@@ -1,7 +1,7 @@
 -- The code's choice is the paper's, on a pool that stands for a state: the bin that is found is the one that the rule names. And what the
 -- choice carries is what the state has there.
 use mathlib.Core.Bool.{Bool, false, true}
-use mathlib.Core.List.{List, [], _∷_}
+use mathlib.Core.List.{List, _∷_}
 use mathlib.Core.Logic.{_≢_}
 use mathlib.Core.Path.{_∙_, _≡_, ap, refl, subst, sym}
 use Prim.Native.Nat.{_%_, _+_, _<_, _≤_, ℕ}
@@ -16,7 +16,6 @@ use Rattle.grant.specs.declared.choosing.Choice.{Choice}
 use Rattle.grant.specs.declared.choosing.Choice.the-variants.{ExactBin, FirstOfBin, HighEnd, LargerBin, LowEnd, Refusal}
 use Rattle.grant.specs.declared.remainder.Rest.{Rest}
 use Rattle.heads.specs.Heads.{blockSize}
-use Rattle.paper.proofs.bins.Bins.{first-count}
 use Rattle.paper.proofs.bins.Smallest.{no-bin-past, none-smallest, smallest-exact, smallest-found, smallest-none}
 use Rattle.paper.proofs.keeps.TakeKeeps.{blockSize-eights, blockSize-least}
 use Rattle.paper.proofs.reads.HeaderReads.{bin-read, end-near}
@@ -27,7 +26,7 @@ use Rattle.paper.specs.Bins.{first}
 use Rattle.paper.specs.Blocks.{State}
 use Rattle.paper.specs.Granting.{choose, chooseLarge, chooseSmall, exact-bin, first-of-bin, high-end, ifRoom, larger-bin, low-end, refusal, smallestBin, Choice as PaperChoice}
 use Rattle.paper.specs.Layout.{large, small-bins}
-use Rattle.words.specs.Choice.{by<, by=, if<, if<-no, if<-yes, if=, if=-no, if=-yes, ifs, when, when-no, when-yes}
+use Rattle.words.specs.Choice.{by<, by=, if<, if<-no, if<-yes, if=, if=-no, if=-yes, when, when-no, when-yes}
 use Rattle.words.specs.Sums.{plus}
 use Rattle.words.specs.Words.{wordAt}
 

@@ -1,7 +1,7 @@
 -- Cutting a large block from the remainder's low end, on bytes, is the paper's: by the stores that do it.
 use mathlib.Core.List.{List, [], _∷_}
 use mathlib.Core.Path.{_∙_, _≡_, ap, sym}
-use Prim.Native.Nat.{_%_, _+_, _-_, _<_, _≤_, ℕ}
+use Prim.Native.Nat.{_%_, _+_, _-_, _≤_, ℕ}
 use native.Mathlib.Omega.{arith}
 use Rattle.grant.proofs.CuttingLow.{low-cut, low-cut-puts, low-cut-written}
 use Rattle.grant.proofs.RestRead.{restIs}

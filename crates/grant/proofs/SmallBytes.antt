@@ -2,7 +2,7 @@
 use mathlib.Core.List.{List, [], _∷_}
 use mathlib.Core.Option.{some}
 use mathlib.Core.Path.{_∙_, _≡_, ap, refl, sym}
-use Prim.Native.Nat.{_%_, _+_, _-_, _<_, _≤_, ℕ}
+use Prim.Native.Nat.{_%_, _+_, _-_, _≤_, ℕ}
 use native.Mathlib.Omega.{arith}
 use Rattle.grant.proofs.Popping.{after-pop, pop-place, pop-puts, pop-room, pop-written, takeFirst-is}
 use Rattle.grant.proofs.RestRead.{restIs}

@@ -1,5 +1,5 @@
 -- "How a block is granted": where the block for a payload comes from; and the answer of a take that it gives, and the state afterwards.
-use mathlib.Core.List.{List, [], _∷_, _++_}
+use mathlib.Core.List.{[], _∷_, _++_}
 use Prim.Native.Nat.{ℕ, _+_, _-_}
 use Rattle.words.specs.Choice.{if=, if<}
 use Rattle.heads.specs.Heads.{blockSize}
@@ -7,7 +7,7 @@ use Rattle.paper.specs.declared.Answer.{Answer}
 use Rattle.paper.specs.declared.Answer.the-variants.{Done, Refused}
 use Rattle.paper.specs.Answers.{no-size, no-room}
 use Rattle.paper.specs.Layout.{blocks-at, large}
-use Rattle.paper.specs.Blocks.{held, free, Block, block, State, total, end}
+use Rattle.paper.specs.Blocks.{held, free, block, State, total, end}
 use Rattle.paper.specs.Bins.{first, seek, rebin, enter, leave, used}
 use Rattle.paper.specs.Runs.{replace}
 
@@ -30,8 +30,9 @@ R s = blocks-at + total (s .low)
 abbrev pub E : State → ℕ
 E s = R s + s .rest
 
--- ---- where a block of b bytes comes from: one case for each clause of the rule
+-- ---- where a block of b bytes comes from
 
+-- One case for each clause of the rule, with b. A larger bin stands with its size, and then b; a refusal with its number.
 pub data Choice : Type 0 where
   first-of-bin high-end exact-bin low-end : ℕ → Choice
   larger-bin : ℕ → ℕ → Choice

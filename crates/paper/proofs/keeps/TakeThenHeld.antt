@@ -1,6 +1,6 @@
 -- After a take every block that was held is held with its size, and of the others only the granted one is: the state before is the state
 -- after without the granted block, run by run.
-use mathlib.Core.List.{List, [], _++_, _∷_}
+use mathlib.Core.List.{List, [], _∷_}
 use mathlib.Core.Logic.{_≢_}
 use mathlib.Core.Path.{_∙_, _≡_, ap, refl, sym}
 use Prim.Native.Nat.{_%_, _+_, _-_, _<_, _≤_, ℕ}
