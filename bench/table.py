@@ -14,6 +14,14 @@ GOAL = 1.25
 BEGIN, END = "<!-- measured: begin -->", "<!-- measured: end -->"
 
 
+def as_text(value):
+    """A ratio with two digits behind the point; with as many as it takes to see on which side of the goal it is."""
+    digits = 2
+    while digits < 6 and (float(f"{value:.{digits}f}") <= GOAL) != (value <= GOAL):
+        digits += 1
+    return f"{value:.{digits}f}"
+
+
 def lines_of(path):
     with open(path) as file:
         return [[part.strip() for part in line.split("|")] for line in file if line.strip()]
@@ -48,7 +56,7 @@ def number(value):
 
 
 def ratio(ours, theirs):
-    return f"{ours / theirs:.2f}" if theirs > 0 else "-"
+    return as_text(ours / theirs) if theirs > 0 else "-"
 
 
 def table(head, rows):
@@ -164,7 +172,7 @@ class Report:
             color = "#46627f" if value <= GOAL else "#c9853a"
             out += [f'<text x="{left - 8}" y="{y + 12}" text-anchor="end">{html.escape(name)}</text>',
                     f'<rect x="{left}" y="{y}" width="{value * scale:.1f}" height="15" fill="{color}"/>',
-                    f'<text x="{left + width + 40}" y="{y + 12}" text-anchor="end">{value:.2f}</text>']
+                    f'<text x="{left + width + 40}" y="{y + 12}" text-anchor="end">{as_text(value)}</text>']
         for value, name, color in ((1, "plain C", "#999999"), (GOAL, f"goal {GOAL}", "black")):
             x = left + value * scale
             anchor = "end" if value == 1 else "start"

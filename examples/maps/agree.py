@@ -1,4 +1,5 @@
-"""Holds what the drawing finds against probe: on damaged images it names a fault exactly where probe refuses the pool.
+"""Holds what the drawing finds against probe: on damaged images it names a fault exactly where probe refuses the pool. And looks that
+no link runs through a row of blocks, where the words are.
 
 The images are those of the example tapes, each damaged many times at a place that a fixed seed chooses; all go through one probe run.
 Sound ones are also counted: blocks held and free as in the figures. The last line is `N passed, M failed`.
@@ -6,6 +7,7 @@ Sound ones are also counted: blocks held and free as in the figures. The last li
 
 import os
 import random
+import re
 import sys
 
 HERE = os.path.dirname(os.path.abspath(__file__))
@@ -13,7 +15,7 @@ sys.path.insert(0, os.path.join(HERE, "..", "..", "tools", "drawing"))
 
 import main  # noqa: E402
 from pool import Pool  # noqa: E402
-from svg import picture  # noqa: E402
+from svg import HEIGHT, picture  # noqa: E402
 
 TAPES = ["maps/bins", "tapes/worked", "tapes/scattering", "tapes/joins", "tapes/small"]
 TURNS = 80
@@ -41,9 +43,44 @@ def counts(pool):
     return [len(held), sum(held), kinds.count("small"), kinds.count("large")]
 
 
+def points(path):
+    """Points along a path as the drawing writes it: M x y, then C, or V, H and q one after the other."""
+    x = y = 0.0
+    for letter, words in re.findall(r"([MCVHq])([^MCVHq]*)", path):
+        numbers = [float(word) for word in words.split()]
+        if letter == "C":
+            (a, b, c, d, e, f), steps = numbers, [i / 40 for i in range(1, 41)]
+            for t in steps:
+                u = 1 - t
+                yield (u**3 * x + 3 * u * u * t * a + 3 * u * t * t * c + t**3 * e, u**3 * y + 3 * u * u * t * b + 3 * u * t * t * d + t**3 * f)
+        elif letter == "M":
+            x, y = numbers
+        else:
+            to_x = numbers[0] if letter == "H" else x + numbers[2] if letter == "q" else x
+            to_y = numbers[0] if letter == "V" else y + numbers[3] if letter == "q" else y
+            for i in range(1, 21):
+                yield x + (to_x - x) * i / 20, y + (to_y - y) * i / 20
+            x, y = to_x, to_y
+
+
+def crosses(drawn):
+    """The links that enter a row; its left end, and how high it is, are those of its blocks."""
+    rows = {float(y) for y in re.findall(r'<path class="(?:held|large|small|remainder|word|false|unread)[^"]*" d="M[\d.]+ ([\d.]+)H', drawn)}
+    right = max(float(x) for x in re.findall(r'd="M[\d.]+ [\d.]+H([\d.]+)', drawn))
+    for path in re.findall(r'<path class="link link-[a-z]+" d="(M[^"]*)"', drawn):
+        if "h" in path:
+            continue  # of the legend
+        for x, y in points(path):
+            if x <= right and any(row + 1 < y < row + HEIGHT - 1 for row in rows):
+                yield path
+                break
+
+
 def agrees(image, inspected, figures):
     pool = Pool(image)
-    picture(pool, "image", 0 if not pool.faults else 2, [0] * 7)  # it can be drawn whatever it is
+    drawn = picture(pool, "image", 0 if not pool.faults else 2, [0] * 7)  # it can be drawn whatever it is
+    if any(crosses(drawn)):
+        return False
     if inspected.split()[1] == "0":
         return not pool.faults and counts(pool) == [int(word) for word in figures.split()[2:6]]
     return bool(pool.faults)

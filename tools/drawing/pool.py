@@ -18,8 +18,8 @@ LEAST_REMAINDER = 8
 Block = namedtuple("Block", "start size kind")
 # From the word at `source` to `target`; kind: small, chain or equal; fault: None, or what is wrong.
 Link = namedtuple("Link", "source target kind fault")
-# What does not fit at an offset; breaks: no block can be followed from there.
-Fault = namedtuple("Fault", "at text breaks")
+# What does not fit at an address; breaks: no block can be followed from there; follows: it is so because something else does not fit.
+Fault = namedtuple("Fault", "at text breaks follows")
 # A bin and the starts of its blocks in the order of its links.
 Bin = namedtuple("Bin", "size starts")
 
@@ -33,13 +33,14 @@ class Pool:
         self.at = {block.start: block for block in self.blocks}
         self._fixed_words()
         self.binned = set()  # starts that stand in a bin
+        self.cut = set()  # the small sizes whose bin has a wrong link; LARGE where a large bin or the chain has one
         for size in SMALL_SIZES:
             self._small_bin(size)
         self._chain()
         self._left_out()
         self._free_word()
-        # What breaks a walk comes first; the rest keeps its order, so that a wrong link stands before the blocks that it lost.
-        self.faults.sort(key=lambda fault: not fault.breaks)
+        # What breaks a walk comes first, what only follows from another fault last; the rest keeps its order.
+        self.faults.sort(key=lambda fault: (fault.follows, not fault.breaks))
 
     # Reading
 
@@ -49,8 +50,16 @@ class Pool:
     def distance(self, at):
         return int.from_bytes(self.data[at:at + 4], "little", signed=True)
 
-    def fault(self, at, text, breaks=False):
-        self.faults.append(Fault(at, text, breaks))
+    def reads(self, at, width=4):
+        """The word as a number; where it is text, as text and in hex too, since then a payload ran over."""
+        data = self.data[at:at + width]
+        number = str(self.word(at, width))
+        if all(0x20 < byte < 0x7F for byte in data):
+            return f"{number} (hex {data.hex(' ')}, text {data.decode('ascii')})"
+        return number
+
+    def fault(self, at, text, breaks=False, follows=False):
+        self.faults.append(Fault(at, text, breaks, follows))
 
     # Blocks
 
@@ -61,9 +70,9 @@ class Pool:
         least = (self.start or BLOCKS) + LEAST_REMAINDER
         self.end = end if self._is_edge(end, least, self.n) else None
         if self.start is None:
-            self.fault(START, f"R, where the remainder starts, reads {start}", True)
+            self.fault(START, f"R, where the remainder starts, reads {self.reads(START, 8)}", True)
         if self.end is None:
-            self.fault(END, f"E, where the remainder ends, reads {end}", True)
+            self.fault(END, f"E, where the remainder ends, reads {self.reads(END, 8)}", True)
         if self.start is not None:
             self._large_region(BLOCKS, self.start)
         self._remainder()
@@ -82,7 +91,7 @@ class Pool:
         self.blocks.append(Block(self.start, size, "remainder"))
         head = self.word(self.start)
         if head != 4 * size + 2:
-            self.fault(self.start, f"the remainder's head reads {head}, and {4 * size + 2} belongs there")
+            self.fault(self.start, f"the remainder's head reads {self.reads(self.start)}, and {4 * size + 2} belongs there")
 
     def _head(self, at, end, name):
         """The size and flags of a block between `at` and `end`; None, and a break, where no block can be followed."""
@@ -96,7 +105,7 @@ class Pool:
             why = f"which reaches past {end}"
         else:
             return size, head >> 1 & 1, head & 1
-        self.fault(at, f"the walk breaks: the head reads {head}, so the size {size}, {why}", True)
+        self.fault(at, f"the walk breaks: the head reads {self.reads(at)}, so the size {size}, {why}", True)
         self.gaps.append((at, end))
         return None
 
@@ -119,9 +128,8 @@ class Pool:
             self.fault(at, f"the head's P is {flag}, and the block below wants {wanted}")
 
     def _free_large(self, at, size, below, end):
-        last = self.word(at + size - 4)
-        if last != self.word(at):
-            self.fault(at + size - 4, f"the last word reads {last}, and the head {self.word(at)} belongs there")
+        if self.word(at + size - 4) != self.word(at):
+            self.fault(at + size - 4, f"the last word reads {self.reads(at + size - 4)}, and the head {self.word(at)} belongs there")
         if below == "large":
             self.fault(at, "two free large blocks touch")
         if at + size == end:
@@ -141,18 +149,20 @@ class Pool:
 
     def _fixed_words(self):
         if self.word(FALSE_WORD, 8) != FALSE_BLOCK:
-            self.fault(FALSE_WORD, f"reads {self.word(FALSE_WORD, 8)}, and {FALSE_BLOCK} belongs there")
+            self.fault(FALSE_WORD, f"reads {self.reads(FALSE_WORD, 8)}, and {FALSE_BLOCK} belongs there")
         for at in range(FALSE_BLOCK, BLOCKS, 4):
             wanted = 1 if at == FALSE_BLOCK + LEVEL else 0
             if at != FALSE_BLOCK + CHAIN and self.word(at) != wanted:
-                self.fault(at, f"the false block reads {self.word(at)}, and {wanted} belongs there")
+                self.fault(at, f"the false block reads {self.reads(at)}, and {wanted} belongs there")
 
     def _free_word(self):
         if self.gaps:
             return  # the sum is not known
         total = sum(block.size for block in self.blocks if block.kind != "held") - 4
         if self.word(FREE_WORD, 8) != total:
-            self.fault(FREE_WORD, f"the free word reads {self.word(FREE_WORD, 8)}, and the free sizes less 4 are {total}")
+            # a head whose bit fell over changes the sum
+            self.fault(FREE_WORD, f"the free word reads {self.reads(FREE_WORD, 8)}, and the free sizes less 4 are {total}",
+                       follows=bool(self.faults))
 
     # Bins
 
@@ -174,7 +184,9 @@ class Pool:
             wrong = None
         self.links.append(Link(source, target, kind, wrong))
         if wrong is not None:
-            self.fault(source, f"the link {wrong}")
+            unread = any(start <= target < end for start, end in self.gaps)
+            self.fault(source, f"the link {wrong}", follows=unread)
+            self.cut.add(size if kind == "small" else LARGE)
             return False
         self.binned.add(target)
         return True
@@ -232,4 +244,5 @@ class Pool:
                 lost.setdefault(block.size, []).append(block.start)
         for size, starts in lost.items():
             many = f"the first of {len(starts)} free blocks" if len(starts) > 1 else "a free block"
-            self.fault(starts[0], f"{many} of {size} that the bin does not have")
+            follows = bool(self.gaps) or min(size, LARGE) in self.cut
+            self.fault(starts[0], f"{many} of {size} that the bin does not have", follows=follows)

@@ -7,12 +7,13 @@ picture, byte for byte.
 from bisect import bisect_left
 from xml.sax.saxutils import escape
 
-from pool import BLOCKS, END, FALSE_BLOCK, FALSE_WORD, FREE_WORD, SMALL_BINS, SMALL_SIZES, START
+from pool import BLOCKS, CHAIN, END, FALSE_BLOCK, FALSE_WORD, FREE_WORD, SMALL_BINS, SMALL_SIZES, START
 
 WIDTH, MARGIN = 960, 32
 LEFT = 80  # where a row starts; its first offset stands to the left of it
 ROOM = WIDTH - LEFT - MARGIN - 8
 HEIGHT, PITCH = 38, 66  # of a row, and from one row to the next
+GAP = PITCH - HEIGHT  # no text stands there, nor right of the rows: links run in these
 LEAST_ROW, MOST_ROWS = 256, 32
 # With more links than the first the lines are faint; with more than the second they would hide the blocks, and are left out.
 MANY_LINKS, MOST_LINKS = 40, 150
@@ -23,6 +24,7 @@ WORDS = {"held": "held", "small": "free", "large": "free", "remainder": "remaind
 TITLES = {"held": "held", "small": "free small block", "large": "free large block", "remainder": "remainder, free"}
 HEADER = {FREE_WORD: "free", FALSE_WORD: "false", START: "R", END: "E"}
 HEADER.update({SMALL_BINS + size: str(size) for size in SMALL_SIZES})
+HEADER[FALSE_BLOCK + CHAIN] = "chain"
 
 STYLE = """
 text { font-family: 'Helvetica Neue', Helvetica, Arial, 'Liberation Sans', sans-serif; font-size: 12px; fill: #2b2d33;
@@ -30,7 +32,7 @@ text { font-family: 'Helvetica Neue', Helvetica, Arial, 'Liberation Sans', sans-
 .name { font-size: 20px; font-weight: 600 }
 .quiet { fill: #767b86 }
 .verdict { font-size: 15px; font-weight: 600 }
-.tiny { font-size: 9px }
+.tiny { font-size: 8.5px }
 .offset { font-size: 10.5px }
 .value { font-size: 19px }
 .strong { font-weight: 600 }
@@ -39,6 +41,7 @@ text { font-family: 'Helvetica Neue', Helvetica, Arial, 'Liberation Sans', sans-
 .on-light-quiet { fill: #6a6f7a }
 .good { fill: #2f7d57 }
 .red { fill: #c0262d }
+.follows { fill: #a8666a }
 .held { fill: #46627f }
 .large { fill: #f0d9a0 }
 .small { fill: #bfdcc8 }
@@ -82,17 +85,20 @@ def text(x, y, words, style="", anchor=""):
 
 
 class Rows:
-    """Where an offset stands: the row is a power of two, so that rows begin at round offsets."""
+    """Where an address stands: a row is a power of two, so that rows begin at round addresses. Where the header's words would be too
+    narrow to be read, they also stand in a row of their own above the others, all as wide, and their links start there."""
 
     def __init__(self, n, top):
-        self.n, self.top, self.row = n, top, LEAST_ROW
+        self.row = LEAST_ROW
         while self.row * MOST_ROWS < n:
             self.row *= 2
         self.count = -(-n // self.row)
         self.scale = ROOM / self.row
+        self.header = top if self.row > LEAST_ROW else None
+        self.top = top + PITCH if self.header is not None else top
 
-    def place(self, offset):
-        return LEFT + offset % self.row * self.scale, self.top + offset // self.row * PITCH
+    def place(self, at):
+        return LEFT + at % self.row * self.scale, self.top + at // self.row * PITCH
 
     def pieces(self, start, end):
         """The part in each row as (x, width, y, whether it is cut at the left, at the right)."""
@@ -103,11 +109,25 @@ class Rows:
             yield x, (stop - at) * self.scale, y, at > start, stop < end
             at = stop
 
+    def header_piece(self, word):
+        """The same for the header's word at an address, and the chain's first, in their own row."""
+        width = ROOM / len(HEADER)
+        return LEFT + list(HEADER).index(word) * width, width, self.header, False, False
+
+    def source(self, word):
+        """Where the link of a word starts."""
+        if self.header is not None and word in HEADER:
+            x, width, y, _, _ = self.header_piece(word)
+            return x + width / 2, y
+        x, y = self.place(word)
+        return x + (8 if word < FALSE_BLOCK else 4) * self.scale / 2, y
+
 
 class Picture:
     def __init__(self, pool):
         self.pool = pool
         self.below, self.links, self.words = [], [], []  # the three layers
+        self.routed = 0  # links that went around
         self.y = 0
 
     # Above the rows
@@ -128,11 +148,14 @@ class Picture:
         self.y = 146
 
     def faults(self):
+        """The causes first, the very first one strong; what only follows from them is set apart."""
         faults = self.pool.faults
-        for fault in faults[:MOST_FAULTS]:
+        for i, fault in enumerate(faults[:MOST_FAULTS]):
             self.y += 19
-            self.words.append(text(MARGIN + 40, self.y + 4, str(fault.at), "red strong", "end"))
-            self.words.append(text(MARGIN + 50, self.y + 4, fault.text, "red"))
+            style = "follows" if fault.follows else "red"
+            words = f"follows: {fault.text}" if fault.follows else fault.text
+            self.words.append(text(MARGIN + 40, self.y + 4, str(fault.at), f"{style} strong", "end"))
+            self.words.append(text(MARGIN + 50, self.y + 4, words, style + (" strong" if i == 0 else "")))
         if len(faults) > MOST_FAULTS:
             self.y += 19
             self.words.append(text(MARGIN + 50, self.y + 4, f"and {len(faults) - MOST_FAULTS} more", "red"))
@@ -144,46 +167,72 @@ class Picture:
         for i in range(self.scale.count):
             _, y = self.scale.place(i * self.scale.row)
             self.words.append(text(LEFT - 12, y + HEIGHT / 2 + 4, str(i * self.scale.row), "quiet", "end"))
-        bad = sorted(fault.at for fault in self.pool.faults) + [self.pool.n]
+        bad = sorted(fault.at for fault in self.pool.faults if not fault.follows) + [self.pool.n]
         for start, end, style, title, labels in self.cells():
             wrong = bad[bisect_left(bad, start)] < end
-            self.cell(start, end, style + (" bad" if wrong else ""), title)
-            self.label(start, end, style, *labels)
+            self.cell(self.scale.pieces(start, end), style + (" bad" if wrong else ""), title)
+            self.label(list(self.scale.pieces(start, end)), style, labels)
+        if self.scale.header is not None:
+            self.header_row(bad)
         for start, end in self.pool.gaps:
-            self.cell(start, end, "unread", f"{start} to {end}: not read")
+            self.cell(self.scale.pieces(start, end), "unread", f"{start} to {end}: not read")
         self.breaks()
         self.y = self.scale.top + (self.scale.count - 1) * PITCH + HEIGHT
 
-    def cells(self):
-        """Everything that has a place: (start, end, style, title, words for its label)."""
+    def header_words(self):
+        """Each word as (its address, title, label); the last one is the chain's first link, in the false block."""
         for at, name in HEADER.items():
-            value = self.pool.word(at, 8)
-            shown = "–" if at > END and value == 0 else str(value)
-            yield at, at + 8, "word", f"{self.header_title(at)} reads {value}", [(name, shown, True)]
-        yield FALSE_BLOCK, BLOCKS, "false", f"{FALSE_BLOCK}: the false block", [(str(FALSE_BLOCK), "false block", False)]
+            if at < FALSE_BLOCK:
+                value = self.pool.word(at, 8)
+                shown = "–" if at > END and value == 0 else str(value)
+            else:
+                distance = self.pool.distance(at)
+                value = FALSE_BLOCK + distance if distance else 0
+                shown = str(value) if distance else "–"
+            yield at, f"{self.header_title(at)} {'leads to' if at > FALSE_BLOCK else 'reads'} {value}", (name, shown)
+
+    def header_row(self, bad):
+        for at, title, words in self.header_words():
+            piece = self.scale.header_piece(at)
+            wrong = bad[bisect_left(bad, at)] < at + 8
+            self.cell([piece], "word" + (" bad" if wrong else ""), title)
+            self.label([piece], "word", [words])
+        self.words.append(text(LEFT - 12, self.scale.header + HEIGHT / 2 + 4, "header", "quiet", "end"))
+
+    def cells(self):
+        """Everything that has a place: (start, end, style, title, its label as lines, the fullest first)."""
+        for at, title, (name, shown) in self.header_words():
+            if at < FALSE_BLOCK:
+                yield at, at + 8, "word", title, [(name, shown)]
+        yield FALSE_BLOCK, BLOCKS, "false", f"{FALSE_BLOCK}: the false block", [(str(FALSE_BLOCK), "false block")]
         follows = {}
         for chain in self.pool.small_bins + self.pool.large_bins:
             follows.update(zip(chain.starts, chain.starts[1:]))
         for start, size, kind in self.pool.blocks:
             title = f"{start}: {TITLES[kind]}, {size} bytes"
-            if kind == "held":
-                title += f", payload at {start + 4}"
-            elif start in follows:
+            if kind == "remainder":
+                yield start, start + size, kind, title, [(str(start), f"remainder {size}"), (str(start), str(size))]
+                continue
+            title += f", offset {start + 4}"
+            if start in follows:
                 title += f", next in its bin {follows[start]}"
-            elif kind != "remainder" and start not in self.pool.binned:
+            elif kind != "held" and start not in self.pool.binned:
                 title += ", in no bin"
-            yield start, start + size, kind, title, [(str(start), f"{WORDS[kind]} {size}", False), (str(start), str(size), False),
-                                                     (str(start), str(size), True)]
+            both = f"{start} · {start + 4}"
+            yield start, start + size, kind, title, [(both, f"{WORDS[kind]} {size}"), (both, str(size)),
+                                                     (str(start), str(start + 4), str(size))]
 
     @staticmethod
     def header_title(at):
         name = {FREE_WORD: "the free word", FALSE_WORD: "where the false block starts", START: "R, where the remainder starts",
                 END: "E, where the remainder ends"}
+        if at > FALSE_BLOCK:
+            return f"{at}: the chain"
         return f"{at}: {name.get(at, f'the small bin of {at - SMALL_BINS}')}"
 
-    def cell(self, start, end, style, title):
+    def cell(self, pieces, style, title):
         shape = ""
-        for x, width, y, cut_left, cut_right in self.scale.pieces(start, end):
+        for x, width, y, cut_left, cut_right in pieces:
             # a hair of white between neighbours; where a block goes on in the next row its end is a point
             hair = min(0.8, width / 8)
             left, right, middle = x + (0 if cut_left else hair), x + width - (0 if cut_right else hair), HEIGHT / 2
@@ -192,17 +241,21 @@ class Picture:
             shape += f"H{short(left)}" + (f"l6 {short(-middle)}z" if cut_left else "z")
         self.below.append(f'<path class="{style}" d="{shape}"><title>{escape(title)}</title></path>')
 
-    def label(self, start, end, style, *tries):
-        """The first of some pairs of words that fits, in the first piece that it fits; none where nothing does."""
+    def label(self, pieces, style, tries):
+        """The first of some labels that fits, in the first piece that it fits; none where nothing does. Three lines are small and close,
+        and so are those of the header's words among the blocks."""
         on = "on-held" if style == "held" else "on-light"
-        for upper, lower, close in tries:
-            small, large, room = (9, 9, 2) if close else (10.5, 12, 7)
-            for x, width, y, cut_left, _ in self.scale.pieces(start, end):
-                first = f"from {upper}" if cut_left else upper
+        for lines in tries:
+            close = len(lines) == 3 or style == "word" and self.scale.header is None
+            small, large, room = (8.5, 8.5, 2) if close else (10.5, 12, 7)
+            for x, width, y, cut_left, _ in pieces:
+                first = f"from {lines[0]}" if cut_left else lines[0]
                 pad = 12 if cut_left else room
-                if pad + max(width_of(first, small), width_of(lower, large)) <= width:
-                    self.words.append(text(x + pad, y + 15, first, f"{on}-quiet {'tiny' if close else 'offset'}"))
-                    self.words.append(text(x + pad, y + 30, lower, f"{on} tiny" if close else on))
+                if pad + max(width_of(first, small), *(width_of(line, large) for line in lines[1:])) <= width:
+                    tops = (11, 22, 33) if len(lines) == 3 else (15, 30)
+                    self.words.append(text(x + pad, y + tops[0], first, f"{on}-quiet {'tiny' if close else 'offset'}"))
+                    for top, line in zip(tops[1:], lines[1:]):
+                        self.words.append(text(x + pad, y + top, line, f"{on} tiny" if close else on))
                     return
 
     def breaks(self):
@@ -213,7 +266,7 @@ class Picture:
                 continue
             x, y = self.scale.place(start)
             self.links.append(f'<path class="cross" d="M{short(x)} {short(y - 5)}v{HEIGHT + 10}"/>')
-            words = f"{start} reads {self.pool.word(start)}"
+            words = f"{start} reads {self.pool.reads(start)}"
             for x, width, y, _, _ in self.scale.pieces(start, end):
                 if width_of(words) + 24 <= width:
                     self.links.append(f'<rect class="plate" x="{short(x + 8)}" y="{short(y + 9)}" '
@@ -238,7 +291,7 @@ class Picture:
             self.words.append(text(LEFT, self.y, note, "quiet"))
 
     def arrow(self, link):
-        x, y = self.scale.place(link.source + (4 if link.source < FALSE_BLOCK else 2))
+        x, y = self.scale.source(link.source)
         outside = not 0 <= link.target < self.pool.n
         if outside:
             to_x, to_y = LEFT + ROOM + 18, y - 10
@@ -247,14 +300,31 @@ class Picture:
             block = self.pool.at.get(link.target)
             to_x += min(10, block.size * self.scale.scale / 2) if block else 0
         style = link.kind if link.fault is None else "bad"
-        self.links.append(f'<path class="link link-{style}" d="{self.curve(x, y, to_x, to_y, outside)}"/>')
+        if outside or abs(to_y - y) <= PITCH:
+            path = self.curve(x, y, to_x, to_y, outside)
+        else:
+            path = self.around(x, y, to_x, to_y)
+        self.links.append(f'<path class="link link-{style}" d="{path}"/>')
         if link.fault is not None:
             tip = to_y + HEIGHT if y > to_y and not outside else to_y
             self.links.append(f'<path class="cross" d="M{short(to_x - 4)} {short(tip - 4)}l8 8m0 -8l-8 8"/>')
 
+    def around(self, x, y, to_x, to_y):
+        """To a row further on: out into the gap beside the row, along it to the right of all rows, and back in the gap beside the other
+        row. So it crosses no block and no words; the lanes keep neighbours apart."""
+        self.routed += 1
+        lane, down = self.routed, to_y > y
+        edge = LEFT + ROOM + 12 + 4 * (lane % 6)
+        near = y + HEIGHT + 5 + 3 * (lane % 4) if down else y - GAP + 14 + 3 * (lane % 4)
+        far = to_y - GAP + 8 + 3 * (lane % 4) if down else to_y + HEIGHT + 8 + 3 * (lane % 4)
+        y, to_y = (y + HEIGHT, to_y) if down else (y, to_y + HEIGHT)
+        r = 4 if down else -4
+        return (f"M{short(x)} {short(y)}V{short(near - r)}q0 {r} 4 {r}H{short(edge - 4)}q4 0 4 {r}V{short(far - r)}"
+                f"q0 {r} -4 {r}H{short(to_x + 4)}q-4 0 -4 {r}V{short(to_y)}")
+
     @staticmethod
     def curve(x, y, to_x, to_y, outside):
-        """Over the top within a row; otherwise from the side that looks to the other row, so that it leaves and arrives upright."""
+        """Over the top within a row; to the next row from the side that looks to it, so that it leaves and arrives upright."""
         if outside:
             bend, to_bend = -16, 0
         elif y == to_y:
@@ -275,8 +345,8 @@ class Picture:
         top = self.y + 44
         self.below.append(f'<path class="rule" d="M{MARGIN} {top - 22.5}H{WIDTH - MARGIN}"/>')
         middle = WIDTH / 2 + 8
-        ends = [self.bin_list(MARGIN, top, "Small bins", self.pool.small_bins),
-                self.bin_list(middle, top, "Large bins, along the chain", self.pool.large_bins)]
+        ends = [self.bin_list(MARGIN, top, "Small bins, by starts", self.pool.small_bins),
+                self.bin_list(middle, top, "Large bins, along the chain, by starts", self.pool.large_bins)]
         self.y = max(ends)
 
     def bin_list(self, x, y, title, bins):
@@ -306,6 +376,8 @@ class Picture:
         if self.pool.faults:
             self.below.append(f'<rect class="unread" x="{short(x)}" y="{self.y - 10}" width="16" height="12"/>')
             self.key(x + 22, "not read")
+        self.y += 22
+        x = self.key(MARGIN, "168 · 172: a block that starts at 168; its offset, where the payload starts, is 172, as in calls and tapes")
         self.y += 22
         x = MARGIN
         for style, words in [("small", "small bin: first, and next"), ("chain", "chain: first block of the next larger bin"),
