@@ -7,6 +7,7 @@
 #define COUNTING_H
 
 #ifdef BY_STEPS
+#include "trap.h"
 #include <signal.h>
 #include <stdint.h>
 #include <stdio.h>
@@ -18,17 +19,9 @@ static void one_step(int signal) {
     steps++;
 }
 
-// The trap flag is bit 8. The flags go through the stack, beyond the 128 bytes where the compiler may keep values unannounced.
-#define FLAGS(change)                            \
-    __asm__ volatile("lea -128(%%rsp), %%rsp\n\t" \
-                     "pushfq\n\t"                \
-                     change ", (%%rsp)\n\t"      \
-                     "popfq\n\t"                 \
-                     "lea 128(%%rsp), %%rsp" ::: "cc", "memory")
-
 #define COUNT_FROM_HERE signal(SIGTRAP, one_step)
-#define COUNT_ON FLAGS("orl $0x100")
-#define COUNT_OFF FLAGS("andl $~0x100")
+#define COUNT_ON TRAP_ON
+#define COUNT_OFF TRAP_OFF
 #define COUNTED_AS(text) (printf("%s | %llu\n", text, (unsigned long long)steps), steps = 0)
 #else
 #include <valgrind/callgrind.h>

@@ -1,6 +1,6 @@
 /* A memory pool for records that must not be lost, in a buffer of yours. Every call is proved to answer as written here, whatever
-   bytes the buffer has (docs/PROMISES.md). Build the library with `rt staticlib board`, and link target/staticlib/libboard.a;
-   of the C library it calls memset alone.
+   bytes the buffer has (docs/PROMISES.md). Build the library with tools/library, and link target/staticlib/libboard.a, or have
+   tools/install put both where your build looks; of the C library it calls memset alone.
 
        static unsigned char pool[1024];
        uint64_t r = pool_lay_out(pool, sizeof pool);
@@ -40,9 +40,21 @@
    the pool. What you write elsewhere may spoil the pool's own words: then the next call says POOL_NOT_SOUND, unless the bytes
    are a sound pool by chance.
 
+   What a call costs: every call but pool_lay_out walks the whole pool first, and looks at each block (README.md has a table). It
+   needs 1.5 KiB of stack, no heap and no global state: any number of pools, each by itself. Two contexts (threads, an interrupt,
+   DMA) must not be in one pool at once: nothing here locks.
+
+   A call that is cut off midway (a reset, the power, a watchdog) may have made some of its stores and not the others. Then the pool is
+   not sound, and every later call says POOL_NOT_SOUND; no call can mend it. Records that must outlive this are kept in two copies
+   that are changed in turn: examples/c/copies.h has it, in some twenty lines, tried with a cut after every store. Or make the calls
+   where they cannot be cut off.
+
    There is no pool_lend: after `r = pool_ask(pool, n, offset)` is done, the payload is the pool_value(r) bytes at pool + offset. */
 #ifndef POOL_H
 #define POOL_H
+
+/* What changed with each version: docs/CHANGES.md. */
+#define POOL_VERSION "0.1.0"
 
 #include <stddef.h>
 #include <stdint.h>

@@ -14,6 +14,12 @@ fn main() {
     println!("cargo:rerun-if-env-changed=ICEWIMPLE_LIBRARY");
     println!("cargo:rerun-if-changed={}", folder.join("libboard.a").display());
     if env::var("CARGO_CFG_TARGET_ARCH").as_deref() == Ok("x86_64") {
+        if !folder.join("libboard.a").exists() {
+            println!(
+                "cargo:warning=there is no libboard.a in {}: build it with tools/library, or name its folder in ICEWIMPLE_LIBRARY",
+                folder.display()
+            );
+        }
         println!("cargo:rustc-link-search=native={}", folder.display());
         println!("cargo:rustc-link-lib=static=board");
     }

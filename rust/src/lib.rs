@@ -15,15 +15,25 @@
 //! Every call reads the pool's bytes first, and a refusal changes none of them. What each answers is proved of the library
 //! (`docs/PROMISES.md`); here it is only passed on. An answer that the library's contract rules out is not believed: it comes back
 //! as [`Refusal::Unforeseen`], and nothing panics.
+//! It needs neither an allocator nor `std`; without the feature `std`, which is on unless you turn it off, [`Refusal`] is no
+//! `std::error::Error`, and that is all. The archive `libboard.a`, which `tools/library` builds, is looked for in `target/staticlib` of
+//! the repository, or in the folder that `ICEWIMPLE_LIBRARY` names.
+#![no_std]
 #![deny(unsafe_code, unsafe_op_in_unsafe_fn, missing_docs)]
+
+#[cfg(any(feature = "std", test))]
+extern crate std;
 
 #[allow(unsafe_code)]
 mod raw;
 mod refusal;
 
+use core::fmt;
 pub use refusal::Refusal;
 use refusal::{answer, within};
-use std::fmt;
+
+/// The version of the calls, as `POOL_VERSION` in the C header (`docs/CHANGES.md`).
+pub const VERSION: &str = env!("CARGO_PKG_VERSION");
 
 /// How many size classes there are.
 pub const CLASSES: usize = 53;

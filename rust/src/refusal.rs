@@ -1,7 +1,6 @@
 //! The refusals, and what is believed of the library's answers.
 
-use std::error::Error;
-use std::fmt;
+use core::fmt;
 
 /// Why a call was refused. The paper's number 6, `POOL_LIST_LENGTH` for C, cannot be met here: the lists are arrays.
 #[derive(Clone, Copy, Debug, PartialEq, Eq)]
@@ -51,7 +50,8 @@ impl fmt::Display for Refusal {
     }
 }
 
-impl Error for Refusal {}
+#[cfg(feature = "std")]
+impl std::error::Error for Refusal {}
 
 /// The value of a call that is done, or the refusal, where it is one that the call may give.
 pub(crate) fn answer(result: u64, may: &[Refusal]) -> Result<u32, Refusal> {
@@ -76,6 +76,7 @@ pub(crate) fn within(n: usize, offset: u32, size: u32, result: u64) -> Result<()
 #[cfg(test)]
 mod tests {
     use super::*;
+    use std::string::ToString;
 
     const MAY: [Refusal; 2] = [Refusal::NotAllowed, Refusal::NotHeld];
 

@@ -1,0 +1,63 @@
+/* Records that outlive a reset in the middle of a call: two copies of one pool, changed in turn.
+
+   A call that is cut off between two of its stores leaves a pool that every later call refuses with POOL_NOT_SOUND. So calls are made
+   on the copy that is not believed, and one store of one word makes it the believed one. Both copies stand in the memory that
+   keeps its bytes, and `completed` is aligned, so that the word is stored whole or not at all:
+
+       struct copy *change = begin(&memory);            the other copy, with what the believed one has
+       r = pool_take(change->pool, sizeof change->pool, 100);
+       memcpy(change->pool + pool_value(r), record, 100);
+       complete(&memory, change);                       from here on the change holds
+
+   After a reset believed(&memory) is the pool as it was before the change or as it was after it. It is NULL in memory that was never
+   laid out: see lay_out_first. Where stores wait in a cache, `in_order` has to push them out too. */
+#ifndef COPIES_H
+#define COPIES_H
+
+#include <stdatomic.h>
+#include <string.h>
+
+#include "pool.h"
+
+enum { POOL_BYTES = 1024 };
+struct copy {
+    volatile uint32_t completed; /* when, as a count of changes; 0 while it is changed */
+    unsigned char pool[POOL_BYTES];
+};
+struct copies {
+    struct copy copy[2];
+};
+
+static inline void in_order(void) { atomic_signal_fence(memory_order_seq_cst); }
+
+/* Of the copies that were completed and that inspection accepts, the one that was completed last. */
+static inline struct copy *believed(struct copies *c) {
+    struct copy *last = NULL;
+    for (struct copy *one = c->copy; one < c->copy + 2; one++)
+        if (one->completed && !pool_refusal(pool_inspect(one->pool, sizeof one->pool)) && (!last || last->completed < one->completed))
+            last = one;
+    return last;
+}
+
+static inline struct copy *begin(struct copies *c) {
+    struct copy *from = believed(c), *to = &c->copy[from == c->copy];
+    to->completed = 0;
+    in_order();
+    memcpy(to->pool, from->pool, sizeof to->pool);
+    return to;
+}
+
+static inline void complete(struct copies *c, struct copy *changed) {
+    in_order();
+    changed->completed = c->copy[changed == c->copy].completed + 1;
+}
+
+/* Once in a memory's life, where believed() is NULL and nothing is to be saved. */
+static inline void lay_out_first(struct copies *c) {
+    c->copy[0].completed = c->copy[1].completed = 0;
+    in_order();
+    pool_lay_out(c->copy[0].pool, sizeof c->copy[0].pool);
+    in_order();
+    c->copy[0].completed = 1;
+}
+#endif
