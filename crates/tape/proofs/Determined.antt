@@ -1,9 +1,7 @@
--- The statement of each public function of the tape determines its outcome: two that it allows are equal, the answer and every lent byte.
+-- The statement of `run` determines its outcome: two that it allows are equal, the answer and every lent byte.
 use mathlib.Core.Path.{_≡_, sym, ap, _∙_}
 use mathlib.Core.List.{List}
 use Prim.Native.Nat.{ℕ}
-use Rattle.tape.specs.declared.request.Record.{Record}
-use Rattle.tape.specs.Records.{readAt}
 use Rattle.tape.specs.Run.{Left, left, leaves, runOf}
 
 pub run-determined : (tape buffer out : List ℕ) (r r' : ℕ) (b b' o o' : List ℕ) → leaves (runOf tape buffer) out ≡ left r b o
@@ -12,6 +10,3 @@ pub run-determined : (tape buffer out : List ℕ) (r r' : ℕ) (b b' o o' : List
 run-determined tape buffer out r r' b b' o o' e f =
     let g : left r b o ≡ left r' b' o' = sym e ∙ f in
     (ap (λ (l : Left). l .count) g, ap (λ (l : Left). l .buffer) g, ap (λ (l : Left). l .out) g)
-
-pub record-at-determined : (tape : List ℕ) (at : ℕ) (r r' : Record) → r ≡ readAt tape at → r' ≡ readAt tape at → r ≡ r'
-record-at-determined tape at r r' e f = e ∙ sym f

@@ -7,15 +7,15 @@ use lib.ListN.{length, length-append}
 use Rattle.words.specs.Choice.{if<-yes, if<-no}
 use Rattle.text.specs.Page.{Page, page, put}
 use Rattle.text.proofs.Page.{put-append, put-length, put-front}
-use Rattle.tape.specs.declared.request.Request.{Request}
-use Rattle.tape.specs.declared.request.Record.{Record}
-use Rattle.tape.specs.declared.request.Record.the-variants.{Whole, Unreadable}
-use Rattle.tape.specs.Records.{readAt, letterOf}
-use Rattle.tape.specs.Lines.{lineOf, Printed}
+use Rattle.records.specs.declared.request.Request.{Request}
+use Rattle.records.specs.declared.request.Record.{Record}
+use Rattle.records.specs.declared.request.Record.the-variants.{Whole, Unreadable}
+use Rattle.records.specs.Records.{readAt}
+use Rattle.records.proofs.Records.{Onward, onward}
+use Rattle.tape.specs.Lines.{lineOf, Printed, letterOf}
 use Rattle.tape.specs.Serve.{Pool, pool, serve}
 use Rattle.tape.specs.Step.{Stepped}
 use Rattle.tape.specs.Run.{Run, run, then, x-line, longest, runFrom, runOf, left, leaves}
-use Rattle.tape.proofs.Records.{Onward, onward}
 
 -- the length of `out`: 96 bytes for each record of the longest tape
 abbrev room : ℕ

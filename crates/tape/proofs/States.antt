@@ -37,12 +37,12 @@ use Rattle.paper.proofs.sheet.WrittenBytes.{write-bytes}
 use Rattle.pool.specs.Calls.{layOut, take, giveBack, figures}
 use Rattle.reading.specs.Read.{read}
 use Rattle.reading.proofs.Readings.{reads, reading-unique}
-use Rattle.tape.specs.declared.request.Request.{Request}
-use Rattle.tape.specs.declared.request.Request.the-variants.{LayOut, Take, GiveBack, Figures}
-use Rattle.tape.specs.declared.request.Record.{Record}
-use Rattle.tape.specs.declared.request.Record.the-variants.{Whole, Unreadable}
-use Rattle.tape.specs.Lines.{lineOf, answered, tallied}
-use Rattle.tape.specs.Records.{readAt, letterOf}
+use Rattle.records.specs.declared.request.Request.{Request}
+use Rattle.records.specs.declared.request.Request.the-variants.{LayOut, Take, GiveBack, Figures}
+use Rattle.records.specs.declared.request.Record.{Record}
+use Rattle.records.specs.declared.request.Record.the-variants.{Whole, Unreadable}
+use Rattle.records.specs.Records.{readAt}
+use Rattle.tape.specs.Lines.{lineOf, answered, tallied, letterOf}
 use Rattle.tape.specs.Run.{Run, byRecord, longest, run, runFrom, runOf, then, x-line}
 use Rattle.tape.proofs.First.{in-the-buffer, past-the-buffer}
 use Rattle.tape.specs.Serve.{Pool, Outcome, answers, figuresFirst, laidOut, onFirst, pool, serve}

@@ -6,9 +6,8 @@ use Rattle.paper.specs.Answers.{Out, out}
 use Rattle.paper.specs.declared.Answer.{Answer}
 use Rattle.paper.specs.declared.Tally.{Tally}
 use Rattle.pool.specs.Calls.{layOut, take, giveBack}
-use Rattle.tape.specs.declared.request.Request.the-variants.{LayOut, Take, GiveBack, Figures}
-use Rattle.tape.specs.Records.{letterOf}
-use Rattle.tape.specs.Lines.{lineOf, answered, tallied, Printed}
+use Rattle.records.specs.declared.request.Request.the-variants.{LayOut, Take, GiveBack, Figures}
+use Rattle.tape.specs.Lines.{lineOf, answered, tallied, Printed, letterOf}
 use Rattle.tape.specs.Serve.{pool, onFirst, figuresFirst, accepted, serve}
 use Rattle.tape.specs.Step.{Stepped}
 

@@ -1,4 +1,3 @@
-pub mod Records
 pub mod Lines
 pub mod Serve
 pub mod Step

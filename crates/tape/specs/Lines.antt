@@ -7,6 +7,8 @@ use Rattle.paper.specs.Answers.{number, sevenOf, value}
 use Rattle.paper.specs.declared.Answer.{Answer}
 use Rattle.paper.specs.declared.Tally.{Tally}
 use Rattle.paper.specs.declared.Tally.the-variants.{Counted, Refused}
+use Rattle.records.specs.declared.request.Request.{Request}
+use Rattle.records.specs.declared.request.Request.the-variants.{LayOut, Take, GiveBack, Figures}
 use Rattle.text.specs.Page.{page, put}
 use Rattle.text.specs.Numeral.{numeral}
 
@@ -15,6 +17,13 @@ space = 32
 
 abbrev pub newline : ℕ
 newline = 10
+
+-- the letter of a request's line, L, T, G or S
+abbrev pub letterOf : Request → ℕ
+letterOf (LayOut n) = 76
+letterOf (Take size) = 84
+letterOf (GiveBack offset) = 71
+letterOf Figures = 83
 
 -- the record's number and letter
 unfoldable pub beginOf : (nth letter : ℕ) → List ℕ

@@ -6,11 +6,11 @@ use Prim.Native.Nat.{ℕ, zero, suc, _+_}
 use lib.ListN.{length, drop}
 use Rattle.words.specs.Choice.{if<}
 use Rattle.paper.specs.Answers.{unreadable}
-use Rattle.tape.specs.declared.request.Request.{Request}
-use Rattle.tape.specs.declared.request.Record.{Record}
-use Rattle.tape.specs.declared.request.Record.the-variants.{Whole, Unreadable}
-use Rattle.tape.specs.Records.{readAt, letterOf}
-use Rattle.tape.specs.Lines.{lineOf}
+use Rattle.records.specs.declared.request.Request.{Request}
+use Rattle.records.specs.declared.request.Record.{Record}
+use Rattle.records.specs.declared.request.Record.the-variants.{Whole, Unreadable}
+use Rattle.records.specs.Records.{readAt}
+use Rattle.tape.specs.Lines.{lineOf, letterOf}
 use Rattle.tape.specs.Serve.{Pool, pool, serve}
 
 -- the lines that are printed, and the pool at the end

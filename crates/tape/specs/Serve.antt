@@ -10,8 +10,8 @@ use Rattle.paper.specs.declared.Answer.the-variants.{Done, Refused}
 use Rattle.paper.specs.declared.Tally.{Tally}
 use Rattle.paper.specs.declared.Tally.the-variants.{Refused as Uncounted}
 use Rattle.pool.specs.Calls.{layOut, take, giveBack, figures}
-use Rattle.tape.specs.declared.request.Request.{Request}
-use Rattle.tape.specs.declared.request.Request.the-variants.{LayOut, Take, GiveBack, Figures}
+use Rattle.records.specs.declared.request.Request.{Request}
+use Rattle.records.specs.declared.request.Request.the-variants.{LayOut, Take, GiveBack, Figures}
 use Rattle.tape.specs.Lines.{answered, tallied}
 
 -- the run's pool is the first n bytes of its buffer

@@ -1,16 +1,12 @@
 // The request tape: its records are read and served one after the other, and each prints a line.
 ghost use mathlib.Core.Path.{_≡_};
 ghost use Rattle.tape.specs.Run.{runOf, leaves, left};
+use records::Record;
+use records::record_at;
 
 mod calls;
 mod lines;
-mod reader;
-mod request;
 mod serve;
-
-pub use reader::record_at;
-pub use request::Record;
-pub use request::Request;
 
 // The longest tape that is run, in bytes.
 pub const LONGEST: usize = 32_768;

@@ -5,8 +5,8 @@ ghost use Rattle.tape.specs.Serve.{pool};
 ghost use Rattle.tape.specs.Step.{Stepped};
 use crate::calls;
 use crate::lines;
-use crate::request::Request;
 use paper::Answer;
+use records::Request;
 
 // After a record: the size of the pool, and the place of the next line.
 pub struct Served {

@@ -4,7 +4,7 @@ use Prim.Native.Nat.{_-_}
 use native.Mathlib.Omega.{arith}
 use lib.ListN.{length}
 use borrow.Author.Needs.{needs}
-use Rattle.tape.proofs.Records.{onward}
+use Rattle.records.proofs.Records.{onward}
 use Rattle.tape.proofs.Going.{Going, too-long, start, ends, stops, goes-on}
 use Rattle.tape.proofs.run.Statement.{statement}
 use Rattle.tape.proofs.run.Tie as tie

@@ -1,6 +1,6 @@
 // The records of a tape: "one byte of kind, then a body whose length the kind fixes".
 ghost use mathlib.Core.Path.{_≡_};
-ghost use Rattle.tape.specs.Records.{readAt};
+ghost use Rattle.records.specs.Records.{readAt};
 
 const LAY_OUT: u8 = 1;
 

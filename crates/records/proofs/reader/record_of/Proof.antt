@@ -1,4 +1,4 @@
--- tape::reader::record_of meets its contract: a walk of its MIR, by hand. The reader is taken apart, and `read` is called on the tape and the place.
+-- records::reader::record_of meets its contract: a walk of its MIR, by hand. The reader is taken apart, and `read` is called on the tape and the place.
 -- All that is known of `read` is its contract. The reader is Copy: what it owns is had twice, one copy is kept whole for the exit, and of the
 -- other what the tape owns goes to `read`, beside the lifetime's token, which comes back.
 use mathlib.Core.Path.{_≡_, refl}
@@ -45,21 +45,21 @@ use denote.Triple.Table.{entered, cited}
 use denote.Triple.Walked.{says, Stays, stay-none, walkOf, goes-none, Walks, ends-at, walked, walk-meets}
 use denote.Exit.{yes}
 use denote.Triple.Clauses.{Clauses, ensured, lasts}
-use Rattle.tape.specs.Records.{readAt}
-use Rattle.tape.specs.declared.reader.Reader.{Reader}
-use Rattle.tape.specs.declared.request.Record.{Record}
-use Rattle.tape.proofs.reader.Reader as T
-use Rattle.tape.proofs.reader.Reader.Laws as T′
-use Rattle.tape.proofs.request.Record as S
-use Rattle.tape.proofs.request.Record.Laws as S′
-use Rattle.tape.proofs.request.read as read
-use Rattle.tape.proofs.request.read.Symbol as read-def
-use Rattle.tape.proofs.request.read.Symbol.{name as #read}
-use Rattle.tape.proofs.request.read.Met as read-thm
-use Rattle.tape.proofs.reader.record_of.Key.{name as #record-of}
-use Rattle.tape.proofs.reader.record_of as record-of
-use Rattle.tape.proofs.reader.record_of.Statement as stated
-use Rattle.tape.proofs.reader.record_of.Code as code
+use Rattle.records.specs.Records.{readAt}
+use Rattle.records.specs.declared.reader.Reader.{Reader}
+use Rattle.records.specs.declared.request.Record.{Record}
+use Rattle.records.proofs.reader.Reader as T
+use Rattle.records.proofs.reader.Reader.Laws as T′
+use Rattle.records.proofs.request.Record as S
+use Rattle.records.proofs.request.Record.Laws as S′
+use Rattle.records.proofs.request.read as read
+use Rattle.records.proofs.request.read.Symbol as read-def
+use Rattle.records.proofs.request.read.Symbol.{name as #read}
+use Rattle.records.proofs.request.read.Met as read-thm
+use Rattle.records.proofs.reader.record_of.Key.{name as #record-of}
+use Rattle.records.proofs.reader.record_of as record-of
+use Rattle.records.proofs.reader.record_of.Statement as stated
+use Rattle.records.proofs.reader.record_of.Code as code
 
 -- the reader's type, over the signature's lifetimes
 abbrev B : Lfts 1 → RattleType
@@ -188,5 +188,5 @@ record-of-spec 𝓤 H 𝓜 𝓖 𝓡 =
     entered 𝓤 H (tripleOf 𝓤 H (𝓖 .A) record-of.signature (record-of.spec 𝓤 H (𝓖 .A) (𝓜 .mem) (𝓡 .run)))
     (tables 𝓤 H 𝓜 𝓡 code.env .C) (tables 𝓤 H 𝓜 𝓡 code.env .Λ) #record-of code.function (code.unfolded 𝓤 H 𝓜 𝓡)
     (meets 𝓤 H (𝓖 .A) W (𝓜 .mem) (𝓡 .run) (tablesOf 𝓤 H 𝓜 (tables 𝓤 H 𝓜 𝓡 code.env))
-    (cited 𝓤 H (Read 𝓤 H (𝓖 .A) W (𝓜 .mem) (𝓡 .run)) 𝓜 𝓡 code.env #read read-def.routine code.calls-tape·request·read
+    (cited 𝓤 H (Read 𝓤 H (𝓖 .A) W (𝓜 .mem) (𝓡 .run)) 𝓜 𝓡 code.env #read read-def.routine code.calls-records·request·read
     (read-thm.met 𝓤 H 𝓜 𝓖 𝓡)))

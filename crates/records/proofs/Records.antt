@@ -7,10 +7,10 @@ use native.Mathlib.Omega.{arith}
 use lib.ListN.{length, getD}
 use Rattle.words.specs.Choice.{if<-yes, if<-no, if=-yes, if=-no, by<, by=}
 use Rattle.words.specs.Words.{wordAt}
-use Rattle.tape.specs.declared.request.Request.{Request}
-use Rattle.tape.specs.declared.request.Request.the-variants.{LayOut, Take, GiveBack, Figures}
-use Rattle.tape.specs.declared.request.Record.the-variants.{Whole, Unreadable}
-use Rattle.tape.specs.Records.{kindOf, withBody, readAt}
+use Rattle.records.specs.declared.request.Request.{Request}
+use Rattle.records.specs.declared.request.Request.the-variants.{LayOut, Take, GiveBack, Figures}
+use Rattle.records.specs.declared.request.Record.the-variants.{Whole, Unreadable}
+use Rattle.records.specs.Records.{kindOf, withBody, readAt}
 
 module _ (tape : List ℕ) (at : ℕ) where
   pub past : length tape ≤ at → Unreadable ≡ readAt tape at

@@ -1,8 +1,8 @@
--- tape::request::read meets its contract: each way out is where the tests of the reader lead.
+-- records::request::read meets its contract: each way out is where the tests of the reader lead.
 use borrow.Author.Needs.{needs}
-use Rattle.tape.proofs.Records.{past, no-body, short, laid, taken, given, other}
-use Rattle.tape.proofs.request.read.Statement.{statement}
-use Rattle.tape.proofs.request.read.Tie as tie
+use Rattle.records.proofs.Records.{past, no-body, short, laid, taken, given, other}
+use Rattle.records.proofs.request.read.Statement.{statement}
+use Rattle.records.proofs.request.read.Tie as tie
 
 pub read-spec : {M : Type 1} → statement M
 read-spec =

@@ -1,4 +1,4 @@
--- tape::reader::reader_at meets its contract: a walk of its MIR, by hand. A reader is made of the tape and the place passed, in the result's local.
+-- records::reader::reader_at meets its contract: a walk of its MIR, by hand. A reader is made of the tape and the place passed, in the result's local.
 -- A `&[u8]` is Copy, so what it owns is had twice: once for the tape at exit, and once inside the reader, beside the facts of the place.
 use mathlib.Core.Path.{refl}
 use Prim.Native.Nat.{ℕ, _<_, _^_}
@@ -36,13 +36,13 @@ use denote.Triple.Table.{entered}
 use denote.Triple.Walked.{says, Stays, stay-none, stay-none-slice, walkOf, goes-none, goes-none-slice}
 use denote.Triple.Walked.{Walks, ends-at, walked, walk-meets}
 use denote.Exit.{yes}
-use Rattle.tape.specs.declared.reader.Reader.{Reader}
-use Rattle.tape.proofs.reader.Reader as T
-use Rattle.tape.proofs.reader.Reader.Laws as T′
-use Rattle.tape.proofs.reader.reader_at.Key.{name as #reader-at}
-use Rattle.tape.proofs.reader.reader_at as reader-at
-use Rattle.tape.proofs.reader.reader_at.Statement as stated
-use Rattle.tape.proofs.reader.reader_at.Code as code
+use Rattle.records.specs.declared.reader.Reader.{Reader}
+use Rattle.records.proofs.reader.Reader as T
+use Rattle.records.proofs.reader.Reader.Laws as T′
+use Rattle.records.proofs.reader.reader_at.Key.{name as #reader-at}
+use Rattle.records.proofs.reader.reader_at as reader-at
+use Rattle.records.proofs.reader.reader_at.Statement as stated
+use Rattle.records.proofs.reader.reader_at.Code as code
 
 abbrev stayed : Stays (reader-at.ended .signature .params) (reader-at.ended .kept)
 stayed = (stay-none-slice (0 ∷ []) tt (plain (λ _. u8)) yes, (stay-none (λ _. usize) yes, tt))

@@ -1,4 +1,4 @@
--- tape::reader::record_at meets its contract: a walk of its MIR, by hand. The reader that one call returns is held in a local and passed to the next.
+-- records::reader::record_at meets its contract: a walk of its MIR, by hand. The reader that one call returns is held in a local and passed to the next.
 -- All that is known of `reader_at` and of `record_of` is their contracts. The machine value of the reader is stored and passed on as it is. In a
 -- local MIR erases the lifetime of the struct's type, so the value is shown to have the type at `erased`: what a reader owns does not say the name.
 use mathlib.Core.Path.{_≡_, refl, ap, _∙_}
@@ -41,25 +41,25 @@ use denote.Triple.Walked.{says, Stays, stay-none, stay-none-slice, walkOf, goes-
 use denote.Triple.Walked.{walked, walk-meets}
 use denote.Exit.{yes}
 use denote.Triple.Clauses.{Clauses, ensured, lasts}
-use Rattle.tape.specs.Records.{readAt}
-use Rattle.tape.specs.declared.reader.Reader.{Reader}
-use Rattle.tape.specs.declared.request.Record.{Record}
-use Rattle.tape.proofs.reader.Reader as T
-use Rattle.tape.proofs.reader.Reader.Laws as T′
-use Rattle.tape.proofs.request.Record as S
-use Rattle.tape.proofs.request.Record.Laws as S′
-use Rattle.tape.proofs.reader.reader_at as reader-at
-use Rattle.tape.proofs.reader.reader_at.Symbol as reader-at-def
-use Rattle.tape.proofs.reader.reader_at.Symbol.{name as #reader-at}
-use Rattle.tape.proofs.reader.reader_at.Met as reader-at-thm
-use Rattle.tape.proofs.reader.record_of as record-of
-use Rattle.tape.proofs.reader.record_of.Symbol as record-of-def
-use Rattle.tape.proofs.reader.record_of.Symbol.{name as #record-of}
-use Rattle.tape.proofs.reader.record_of.Met as record-of-thm
-use Rattle.tape.proofs.reader.record_at.Key.{name as #record-at}
-use Rattle.tape.proofs.reader.record_at as record-at
-use Rattle.tape.proofs.reader.record_at.Statement as stated
-use Rattle.tape.proofs.reader.record_at.Code as code
+use Rattle.records.specs.Records.{readAt}
+use Rattle.records.specs.declared.reader.Reader.{Reader}
+use Rattle.records.specs.declared.request.Record.{Record}
+use Rattle.records.proofs.reader.Reader as T
+use Rattle.records.proofs.reader.Reader.Laws as T′
+use Rattle.records.proofs.request.Record as S
+use Rattle.records.proofs.request.Record.Laws as S′
+use Rattle.records.proofs.reader.reader_at as reader-at
+use Rattle.records.proofs.reader.reader_at.Symbol as reader-at-def
+use Rattle.records.proofs.reader.reader_at.Symbol.{name as #reader-at}
+use Rattle.records.proofs.reader.reader_at.Met as reader-at-thm
+use Rattle.records.proofs.reader.record_of as record-of
+use Rattle.records.proofs.reader.record_of.Symbol as record-of-def
+use Rattle.records.proofs.reader.record_of.Symbol.{name as #record-of}
+use Rattle.records.proofs.reader.record_of.Met as record-of-thm
+use Rattle.records.proofs.reader.record_at.Key.{name as #record-at}
+use Rattle.records.proofs.reader.record_at as record-at
+use Rattle.records.proofs.reader.record_at.Statement as stated
+use Rattle.records.proofs.reader.record_at.Code as code
 
 -- the reader's type, over the signature's lifetimes
 abbrev B : Lfts 1 → RattleType
@@ -216,7 +216,7 @@ record-at-spec 𝓤 H 𝓜 𝓖 𝓡 =
     entered 𝓤 H (tripleOf 𝓤 H (𝓖 .A) record-at.signature (record-at.spec 𝓤 H (𝓖 .A) (𝓜 .mem) (𝓡 .run)))
     (tables 𝓤 H 𝓜 𝓡 code.env .C) (tables 𝓤 H 𝓜 𝓡 code.env .Λ) #record-at code.function (code.unfolded 𝓤 H 𝓜 𝓡)
     (meets 𝓤 H (𝓖 .A) W (𝓜 .mem) (𝓡 .run) (tablesOf 𝓤 H 𝓜 (tables 𝓤 H 𝓜 𝓡 code.env))
-    (cited 𝓤 H (ReaderAt 𝓤 H (𝓖 .A) W (𝓜 .mem) (𝓡 .run)) 𝓜 𝓡 code.env #reader-at reader-at-def.routine code.calls-tape·reader·reader-at
+    (cited 𝓤 H (ReaderAt 𝓤 H (𝓖 .A) W (𝓜 .mem) (𝓡 .run)) 𝓜 𝓡 code.env #reader-at reader-at-def.routine code.calls-records·reader·reader-at
     (reader-at-thm.met 𝓤 H 𝓜 𝓖 𝓡))
-    (cited 𝓤 H (RecordOf 𝓤 H (𝓖 .A) W (𝓜 .mem) (𝓡 .run)) 𝓜 𝓡 code.env #record-of record-of-def.routine code.calls-tape·reader·record-of
+    (cited 𝓤 H (RecordOf 𝓤 H (𝓖 .A) W (𝓜 .mem) (𝓡 .run)) 𝓜 𝓡 code.env #record-of record-of-def.routine code.calls-records·reader·record-of
     (record-of-thm.met 𝓤 H 𝓜 𝓖 𝓡)))

@@ -4,23 +4,16 @@ use Prim.Native.Nat.{ℕ, _+_, _-_}
 use lib.ListN.{length, getD}
 use Rattle.words.specs.Choice.{if<, if=}
 use Rattle.words.specs.Words.{wordAt}
-use Rattle.tape.specs.declared.request.Request.{Request}
-use Rattle.tape.specs.declared.request.Request.the-variants.{LayOut, Take, GiveBack, Figures}
-use Rattle.tape.specs.declared.request.Record.{Record}
-use Rattle.tape.specs.declared.request.Record.the-variants.{Whole, Unreadable}
+use Rattle.records.specs.declared.request.Request.{Request}
+use Rattle.records.specs.declared.request.Request.the-variants.{LayOut, Take, GiveBack, Figures}
+use Rattle.records.specs.declared.request.Record.{Record}
+use Rattle.records.specs.declared.request.Record.the-variants.{Whole, Unreadable}
 
 abbrev pub kindOf : Request → ℕ
 kindOf (LayOut n) = 1
 kindOf (Take size) = 2
 kindOf (GiveBack offset) = 3
 kindOf Figures = 4
-
--- the letter of a request's line, L, T, G or S
-abbrev pub letterOf : Request → ℕ
-letterOf (LayOut n) = 76
-letterOf (Take size) = 84
-letterOf (GiveBack offset) = 71
-letterOf Figures = 83
 
 -- a kind with a body: the record's number is v, and the next record's place is next
 unfoldable pub withBody : (kind v next : ℕ) → Record

@@ -2,7 +2,7 @@
 // reader does no work of its own: it is made, and taken apart again for `read`. The borrow checker covers no function over a struct that
 // holds a slice, so the three below are proved by hand and kept as short as can be.
 ghost use mathlib.Core.Path.{_≡_};
-ghost use Rattle.tape.specs.Records.{readAt};
+ghost use Rattle.records.specs.Records.{readAt};
 use crate::request::Record;
 use crate::request::read;
 
