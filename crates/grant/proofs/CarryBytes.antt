@@ -6,7 +6,7 @@ use Prim.Native.Nat.{_+_, ℕ}
 use native.Mathlib.Omega.{arith}
 use Rattle.bins.proofs.Between.{stands-between}
 use Rattle.bins.proofs.ChainRead.{found-size}
-use Rattle.grant.proofs.ChoiceRead.{Carries, said}
+use Rattle.choosing.proofs.ChoiceRead.{Carries, said}
 use Rattle.grant.proofs.LowBytes.{cutLow-bytes}
 use Rattle.grant.proofs.PartBytes.{takePart-bytes}
 use Rattle.grant.proofs.SmallBytes.{cutHigh-bytes, takeFirst-bytes}
@@ -14,9 +14,9 @@ use Rattle.grant.proofs.WholeBytes.{takeWhole-bytes}
 use Rattle.grant.specs.Large.{cutLow}
 use Rattle.grant.specs.Small.{cutHigh}
 use Rattle.grant.specs.Take.{carryOut as carryOut-model}
-use Rattle.grant.specs.declared.choosing.Choice.{Choice}
-use Rattle.grant.specs.declared.choosing.Choice.the-variants.{ExactBin, FirstOfBin, HighEnd, LargerBin, LowEnd, Refusal}
-use Rattle.grant.specs.declared.remainder.Rest.{Rest}
+use Rattle.choosing.specs.declared.Choice.{Choice}
+use Rattle.choosing.specs.declared.Choice.the-variants.{ExactBin, FirstOfBin, HighEnd, LargerBin, LowEnd, Refusal}
+use Rattle.choosing.specs.declared.remainder.Rest.{Rest}
 use Rattle.paper.proofs.bins.Smallest.{smallest-found}
 use Rattle.paper.proofs.reads.Stands.{Stands}
 use Rattle.paper.specs.Answers.{out}

@@ -1,5 +1,3 @@
-pub mod RestRead
-pub mod ChoiceRead
 pub mod Spending
 pub mod Popping
 pub mod SmallBytes

@@ -4,7 +4,7 @@ use mathlib.Core.Path.{_∙_, _≡_, ap, sym}
 use Prim.Native.Nat.{_%_, _+_, _-_, _≤_, ℕ}
 use native.Mathlib.Omega.{arith}
 use Rattle.grant.proofs.CuttingLow.{low-cut, low-cut-puts, low-cut-written}
-use Rattle.grant.proofs.RestRead.{restIs}
+use Rattle.choosing.proofs.RestRead.{restIs}
 use Rattle.grant.proofs.Spending.{granted-leaves, spent-stores}
 use Rattle.grant.specs.Large.{cutLow as cutLow-model}
 use Rattle.grant.specs.Granted.{spent}

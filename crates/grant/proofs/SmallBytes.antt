@@ -5,7 +5,7 @@ use mathlib.Core.Path.{_∙_, _≡_, ap, refl, sym}
 use Prim.Native.Nat.{_%_, _+_, _-_, _≤_, ℕ}
 use native.Mathlib.Omega.{arith}
 use Rattle.grant.proofs.Popping.{after-pop, pop-place, pop-puts, pop-room, pop-written, takeFirst-is}
-use Rattle.grant.proofs.RestRead.{restIs}
+use Rattle.choosing.proofs.RestRead.{restIs}
 use Rattle.grant.proofs.Spending.{granted-leaves, spent-stores}
 use Rattle.grant.specs.Granted.{spent, granted as granted-model}
 use Rattle.grant.specs.Small.{cutHigh as cutHigh-model, takeFirst as takeFirst-model}

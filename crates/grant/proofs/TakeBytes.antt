@@ -3,8 +3,8 @@ use mathlib.Core.List.{List}
 use mathlib.Core.Path.{_∙_, _≡_, ap}
 use Prim.Native.Nat.{ℕ}
 use Rattle.grant.proofs.CarryBytes.{carryOut-bytes}
-use Rattle.grant.proofs.ChoiceRead.{choose-reads}
-use Rattle.grant.specs.Choosing.{choose as choose-model}
+use Rattle.choosing.proofs.ChoiceRead.{choose-reads}
+use Rattle.choosing.specs.Choosing.{choose as choose-model}
 use Rattle.grant.specs.Take.{take as take-model}
 use Rattle.paper.proofs.reads.Stands.{Stands}
 use Rattle.paper.specs.Blocks.{State}

@@ -12,7 +12,7 @@ use Rattle.bins.specs.Find.{size}
 use Rattle.bins.specs.Leave.{usedIn, takeOut}
 use Rattle.bins.specs.Enter.{enter}
 use Rattle.grant.specs.Granted.{granted}
-use Rattle.grant.specs.declared.remainder.Rest.{Rest}
+use Rattle.choosing.specs.declared.remainder.Rest.{Rest}
 
 unfoldable pub hold : List ℕ → ℕ → ℕ → List ℕ
 hold bs q b =

@@ -1,6 +1,4 @@
-pub mod Choosing
 pub mod Granted
 pub mod Large
-pub mod Remainder
 pub mod Small
 pub mod Take

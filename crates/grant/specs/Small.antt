@@ -6,7 +6,7 @@ use Rattle.words.specs.Words.{wordAt, putAt}
 use Rattle.heads.specs.Heads.{heldHead, freeHead}
 use Rattle.paper.specs.Answers.{Out}
 use Rattle.paper.specs.Layout.{end-at, small-bins, small-next-at}
-use Rattle.grant.specs.declared.remainder.Rest.{Rest}
+use Rattle.choosing.specs.declared.remainder.Rest.{Rest}
 use Rattle.grant.specs.Granted.{granted}
 
 -- the first block q of the bin of size b

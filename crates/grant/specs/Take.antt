@@ -3,9 +3,9 @@ use mathlib.Core.List.{List}
 use Prim.Native.Nat.{ℕ}
 use Rattle.paper.specs.declared.Answer.the-variants.{Refused}
 use Rattle.paper.specs.Answers.{Out, out}
-use Rattle.grant.specs.declared.choosing.Choice.{Choice}
-use Rattle.grant.specs.declared.choosing.Choice.the-variants.{ExactBin, FirstOfBin, HighEnd, LargerBin, LowEnd, Refusal}
-use Rattle.grant.specs.Choosing.{choose}
+use Rattle.choosing.specs.declared.Choice.{Choice}
+use Rattle.choosing.specs.declared.Choice.the-variants.{ExactBin, FirstOfBin, HighEnd, LargerBin, LowEnd, Refusal}
+use Rattle.choosing.specs.Choosing.{choose}
 use Rattle.grant.specs.Small.{cutHigh, takeFirst}
 use Rattle.grant.specs.Large.{cutLow, takePart, takeWhole}
 

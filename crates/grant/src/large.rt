@@ -3,8 +3,8 @@ ghost use mathlib.Core.Path.{_≡_};
 ghost use Rattle.paper.specs.Answers.{out};
 ghost use Rattle.grant.specs.Large.{hold as hold-of, split as split-of, takeWhole, takePart, cutLow};
 use crate::granted::granted;
-use crate::remainder::Rest;
 use bins::Bin;
+use choosing::Rest;
 use paper::Answer;
 use paper::START;
 

@@ -1,19 +1,16 @@
 // How a block is granted. Total, and with no inspection of its own: the pool's calls inspect first.
 //
 // Bytes that stay: only words that are governed afterwards are stored, so a taken payload keeps its old bytes.
-mod choosing;
 mod granted;
 mod large;
-mod remainder;
 mod small;
 
 ghost use mathlib.Core.Path.{_≡_};
 ghost use Rattle.paper.specs.Answers.{out};
 ghost use Rattle.grant.specs.Take.{carryOut, take as take-of};
-pub use choosing::Choice;
-pub use choosing::choose;
+use choosing::Choice;
+use choosing::choose;
 use paper::Answer;
-pub use remainder::Rest;
 
 // What was chosen is done, on the pool that it was chosen for.
 pub fn carry_out(pool: &mut [u8], choice: Choice) -> Answer

@@ -3,7 +3,7 @@ ghost use mathlib.Core.Path.{_≡_};
 ghost use Rattle.paper.specs.Answers.{out};
 ghost use Rattle.grant.specs.Small.{takeFirst, cutHigh};
 use crate::granted::granted;
-use crate::remainder::Rest;
+use choosing::Rest;
 use paper::Answer;
 use paper::END;
 use paper::SMALL_BINS;

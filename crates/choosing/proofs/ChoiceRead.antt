@@ -10,11 +10,11 @@ use Rattle.bins.proofs.Between.{Between, stands-between}
 use Rattle.bins.proofs.ChainRead.{Found, find-found, find-on-found, found-none, found-size, found-some}
 use Rattle.bins.specs.Find.{find, findOn, none, size}
 use Rattle.bins.specs.declared.chain.Bin.{Bin}
-use Rattle.grant.proofs.RestRead.{rest-read, restIs}
-use Rattle.grant.specs.Choosing.{chooseLarger, highEnd, lowEnd, choose as choose-model, chooseLarge as chooseLarge-model, chooseSmall as chooseSmall-model}
-use Rattle.grant.specs.declared.choosing.Choice.{Choice}
-use Rattle.grant.specs.declared.choosing.Choice.the-variants.{ExactBin, FirstOfBin, HighEnd, LargerBin, LowEnd, Refusal}
-use Rattle.grant.specs.declared.remainder.Rest.{Rest}
+use Rattle.choosing.proofs.RestRead.{rest-read, restIs}
+use Rattle.choosing.specs.Choosing.{chooseLarger, highEnd, lowEnd, choose as choose-model, chooseLarge as chooseLarge-model, chooseSmall as chooseSmall-model}
+use Rattle.choosing.specs.declared.Choice.{Choice}
+use Rattle.choosing.specs.declared.Choice.the-variants.{ExactBin, FirstOfBin, HighEnd, LargerBin, LowEnd, Refusal}
+use Rattle.choosing.specs.declared.remainder.Rest.{Rest}
 use Rattle.heads.specs.Heads.{blockSize}
 use Rattle.paper.proofs.bins.Smallest.{no-bin-past, none-smallest, smallest-exact, smallest-found, smallest-none}
 use Rattle.paper.proofs.keeps.TakeKeeps.{blockSize-eights, blockSize-least}

@@ -4,7 +4,7 @@ use Prim.Native.Nat.{ℕ}
 use Rattle.words.specs.Sums.{minus}
 use Rattle.words.specs.Words.{wordAt}
 use Rattle.paper.specs.Layout.{end-at, start-at}
-use Rattle.grant.specs.declared.remainder.Rest.{Rest}
+use Rattle.choosing.specs.declared.remainder.Rest.{Rest}
 
 unfoldable pub remainder : List ℕ → Rest
 remainder bs =

@@ -1,10 +1,10 @@
--- grant::choose_small meets its contract, by the test on the first block of the bin.
-use Rattle.grant.specs.Choosing.{chooseSmall}
+-- choosing::choose_small meets its contract, by the test on the first block of the bin.
+use Rattle.choosing.specs.Choosing.{chooseSmall}
 use Rattle.words.specs.Choice.{if=-yes, if=-no}
 use mathlib.Core.Path.{sym, _∙_}
 use borrow.Author.Needs.{needs}
-use Rattle.grant.proofs.choosing.choose_small.Statement.{statement}
-use Rattle.grant.proofs.choosing.choose_small.Tie as tie
+use Rattle.choosing.proofs.choose_small.Statement.{statement}
+use Rattle.choosing.proofs.choose_small.Tie as tie
 
 returns : tie.Need-returns
 unfolding chooseSmall

@@ -9,9 +9,9 @@ use Rattle.paper.specs.Answers.{no-room, no-size}
 use Rattle.paper.specs.Layout.{large, small-bins}
 use Rattle.bins.specs.declared.chain.Bin.{Bin}
 use Rattle.bins.specs.Find.{find, findOn, none, size}
-use Rattle.grant.specs.Remainder.{remainder}
-use Rattle.grant.specs.declared.choosing.Choice.{Choice}
-use Rattle.grant.specs.declared.choosing.Choice.the-variants.{ExactBin, FirstOfBin, HighEnd, LargerBin, LowEnd, Refusal}
+use Rattle.choosing.specs.Remainder.{remainder}
+use Rattle.choosing.specs.declared.Choice.{Choice}
+use Rattle.choosing.specs.declared.Choice.the-variants.{ExactBin, FirstOfBin, HighEnd, LargerBin, LowEnd, Refusal}
 
 -- the remainder, if 8 bytes are left
 unfoldable pub highEnd : List ℕ → ℕ → Choice

@@ -1,9 +1,9 @@
--- grant::choose meets its contract, by the tests on the size.
-use Rattle.grant.specs.Choosing.{choose}
+-- choosing::choose meets its contract, by the tests on the size.
+use Rattle.choosing.specs.Choosing.{choose}
 use Rattle.words.specs.Choice.{if=-yes, if=-no, if<-yes, if<-no}
 use borrow.Author.Needs.{needs}
-use Rattle.grant.proofs.choosing.choose.Statement.{statement}
-use Rattle.grant.proofs.choosing.choose.Tie as tie
+use Rattle.choosing.proofs.choose.Statement.{statement}
+use Rattle.choosing.proofs.choose.Tie as tie
 
 returns : tie.Need-returns
 unfolding choose

@@ -1,6 +1,6 @@
 // The remainder, as the header gives it.
 ghost use mathlib.Core.Path.{_≡_};
-ghost use Rattle.grant.specs.Remainder.{remainder as remainder-of};
+ghost use Rattle.choosing.specs.Remainder.{remainder as remainder-of};
 
 pub struct Rest {
     pub start: u32,

@@ -1,8 +1,8 @@
--- grant::remainder meets its contract, by its text.
-use Rattle.grant.specs.Remainder.{remainder}
+-- choosing::remainder meets its contract, by its text.
+use Rattle.choosing.specs.Remainder.{remainder}
 use borrow.Author.Needs.{needs}
-use Rattle.grant.proofs.remainder.remainder.Statement.{statement}
-use Rattle.grant.proofs.remainder.remainder.Tie as tie
+use Rattle.choosing.proofs.remainder.remainder.Statement.{statement}
+use Rattle.choosing.proofs.remainder.remainder.Tie as tie
 
 returns : tie.Need-returns
 unfolding remainder

@@ -1,20 +1,20 @@
--- grant::low_end meets its contract, by the test on the remainder.
-use Rattle.grant.specs.Choosing.{lowEnd}
+-- choosing::high_end meets its contract, by the test on the remainder.
+use Rattle.choosing.specs.Choosing.{highEnd}
 use Rattle.words.specs.Choice.{if<-yes, if<-no}
 use borrow.Author.Needs.{needs}
-use Rattle.grant.proofs.choosing.low_end.Statement.{statement}
-use Rattle.grant.proofs.choosing.low_end.Tie as tie
+use Rattle.choosing.proofs.high_end.Statement.{statement}
+use Rattle.choosing.proofs.high_end.Tie as tie
 
 returns : tie.Need-returns
-unfolding lowEnd
+unfolding highEnd
 returns c = rw (← c .before .before .remainder .ensures, if<-yes _ _ _ _ (c .if1 .taken)) (cc)
 
 returns-2 : tie.Need-returns-2
-unfolding lowEnd
+unfolding highEnd
 returns-2 c = rw (← c .before .before .remainder .ensures, if<-no _ _ _ _ (c .if1 .left)) (cc)
 
-pub low-end-spec : {M : Type 1} → statement M
-low-end-spec =
+pub high-end-spec : {M : Type 1} → statement M
+high-end-spec =
     tie.close
     (tie.spec
     (λ c κs. search needs)

@@ -1,10 +1,10 @@
--- grant::choose_larger meets its contract, by the test on the bin that was found.
-use Rattle.grant.specs.Choosing.{chooseLarger}
+-- choosing::choose_larger meets its contract, by the test on the bin that was found.
+use Rattle.choosing.specs.Choosing.{chooseLarger}
 use Rattle.words.specs.Choice.{when-yes, when-no}
 use mathlib.Core.Path.{sym, _∙_}
 use borrow.Author.Needs.{needs}
-use Rattle.grant.proofs.choosing.choose_larger.Statement.{statement}
-use Rattle.grant.proofs.choosing.choose_larger.Tie as tie
+use Rattle.choosing.proofs.choose_larger.Statement.{statement}
+use Rattle.choosing.proofs.choose_larger.Tie as tie
 
 returns : tie.Need-returns
 unfolding chooseLarger

@@ -1,10 +1,13 @@
-// Where a block comes from: asked before anything is stored, and storing nothing.
+// Where a block for a payload would come from: asked before anything is stored, and storing nothing.
+// Total, and with no inspection of its own: the pool's calls inspect first.
+mod remainder;
+
 ghost use mathlib.Core.Path.{_≡_};
-ghost use Rattle.grant.specs.Choosing.{highEnd, lowEnd, chooseSmall, chooseLarger, chooseLarge, choose as choose-of};
-use crate::remainder::Rest;
-use crate::remainder::remainder;
+ghost use Rattle.choosing.specs.Choosing.{highEnd, lowEnd, chooseSmall, chooseLarger, chooseLarge, choose as choose-of};
 use bins::Bin;
 use paper::SMALL_BINS;
+pub use remainder::Rest;
+use remainder::remainder;
 
 // One case for each clause of the rule. Each carries what carrying it out needs, and last the size of the block, so nothing is looked
 // for twice: the first block of a small bin; the remainder, for its high end; a bin of exactly that size; a larger one, for the

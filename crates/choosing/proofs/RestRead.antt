@@ -3,8 +3,8 @@ use mathlib.Core.List.{List}
 use mathlib.Core.Path.{_≡_}
 use native.Mathlib.Omega.{arith}
 use Prim.Native.Nat.{ℕ}
-use Rattle.grant.specs.Remainder.{remainder}
-use Rattle.grant.specs.declared.remainder.Rest.{Rest}
+use Rattle.choosing.specs.Remainder.{remainder}
+use Rattle.choosing.specs.declared.remainder.Rest.{Rest}
 use Rattle.paper.proofs.reads.HeaderReads.{end-near, end-read, start-read}
 use Rattle.paper.proofs.reads.Stands.{Stands}
 use Rattle.paper.specs.Blocks.{State}

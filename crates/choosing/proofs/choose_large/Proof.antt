@@ -1,10 +1,10 @@
--- grant::choose_large meets its contract, by the tests on the bin that was found.
-use Rattle.grant.specs.Choosing.{chooseLarge}
+-- choosing::choose_large meets its contract, by the tests on the bin that was found.
+use Rattle.choosing.specs.Choosing.{chooseLarge}
 use Rattle.words.specs.Choice.{if=-yes, if=-no, when-yes, when-no}
 use mathlib.Core.Path.{sym, _∙_}
 use borrow.Author.Needs.{needs}
-use Rattle.grant.proofs.choosing.choose_large.Statement.{statement}
-use Rattle.grant.proofs.choosing.choose_large.Tie as tie
+use Rattle.choosing.proofs.choose_large.Statement.{statement}
+use Rattle.choosing.proofs.choose_large.Tie as tie
 
 returns : tie.Need-returns
 unfolding chooseLarge

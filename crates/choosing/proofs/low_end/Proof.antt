@@ -1,20 +1,20 @@
--- grant::high_end meets its contract, by the test on the remainder.
-use Rattle.grant.specs.Choosing.{highEnd}
+-- choosing::low_end meets its contract, by the test on the remainder.
+use Rattle.choosing.specs.Choosing.{lowEnd}
 use Rattle.words.specs.Choice.{if<-yes, if<-no}
 use borrow.Author.Needs.{needs}
-use Rattle.grant.proofs.choosing.high_end.Statement.{statement}
-use Rattle.grant.proofs.choosing.high_end.Tie as tie
+use Rattle.choosing.proofs.low_end.Statement.{statement}
+use Rattle.choosing.proofs.low_end.Tie as tie
 
 returns : tie.Need-returns
-unfolding highEnd
+unfolding lowEnd
 returns c = rw (← c .before .before .remainder .ensures, if<-yes _ _ _ _ (c .if1 .taken)) (cc)
 
 returns-2 : tie.Need-returns-2
-unfolding highEnd
+unfolding lowEnd
 returns-2 c = rw (← c .before .before .remainder .ensures, if<-no _ _ _ _ (c .if1 .left)) (cc)
 
-pub high-end-spec : {M : Type 1} → statement M
-high-end-spec =
+pub low-end-spec : {M : Type 1} → statement M
+low-end-spec =
     tie.close
     (tie.spec
     (λ c κs. search needs)

@@ -1,0 +1,2 @@
+pub mod RestRead
+pub mod ChoiceRead
