@@ -9,6 +9,7 @@ use Rattle.paper.proofs.runs.Walk.{In, in-aligned, in-high, in-low}
 use Rattle.paper.specs.Bins.{count, rebin}
 use Rattle.paper.specs.Blocks.{Block, State, block, blocks, end, free, held, remainder, total}
 use Rattle.paper.specs.Governed.{flagAbove}
+use Rattle.paper.specs.Layout.{blocks-at}
 use Rattle.paper.specs.Sound.{Sized, WellFormed, freeAt}
 use Rattle.words.specs.Choice.{by=, if=-no, if=-yes, ifs}
 
@@ -71,16 +72,16 @@ pub record Loose (s : State) : Type 0 where
   pub top1 : 1 ≤ s .top
   pub top13 : s .top ≤ 13
   pub once : (y q : ℕ) → count q (s .bins y) ≤ 1
-  pub found : (y q : ℕ) → 1 ≤ count q (s .bins y) → (P : ℕ) × In (blocks s) 168 1 q (block y free) P
+  pub found : (y q : ℕ) → 1 ≤ count q (s .bins y) → (P : ℕ) × In (blocks s) blocks-at 1 q (block y free) P
 
 module _ (s : State) (W : Loose s) where
   -- where a listed block is
-  pub start : (y q : ℕ) → 1 ≤ count q (s .bins y) → (168 ≤ q) × (q + y ≤ end s) × (q % 8 ≡ 0)
+  pub start : (y q : ℕ) → 1 ≤ count q (s .bins y) → (blocks-at ≤ q) × (q + y ≤ end s) × (q % 8 ≡ 0)
   start y q h =
       let f = W .found y q h in (
-        in-low (blocks s) 168 1 q (block y free) (f .0) (f .1),
-        in-high (blocks s) 168 1 q (block y free) (f .0) (f .1),
-        in-aligned (blocks s) 168 1 q
+        in-low (blocks s) blocks-at 1 q (block y free) (f .0) (f .1),
+        in-high (blocks s) blocks-at 1 q (block y free) (f .0) (f .1),
+        in-aligned (blocks s) blocks-at 1 q
             (block y free) (f .0) (W .sized) refl (f .1),
       )
 
@@ -90,8 +91,8 @@ loose s W =
       sized = W .sized;
       top1 = one (W .layout);
       top13 = thirteen (W .layout);
-      once = λ y q. omega (arith, W .listed y q, freeAt-once (blocks s) 168 y q (W .sized));
-      found = λ y q h. freeAt-in (blocks s) 168 1 y q (omega (arith, W .listed y q));
+      once = λ y q. omega (arith, W .listed y q, freeAt-once (blocks s) blocks-at y q (W .sized));
+      found = λ y q h. freeAt-in (blocks s) blocks-at 1 y q (omega (arith, W .listed y q));
     }
   where
     one : (s .top ≡ 1) ⊎ (s .top ≡ 13) → 1 ≤ s .top

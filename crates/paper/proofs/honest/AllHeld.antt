@@ -5,6 +5,7 @@ use mathlib.Core.Path.{_≡_, ap, refl}
 use Prim.Native.Nat.{_+_, _≤_, ℕ}
 use Rattle.paper.proofs.reads.Unique.{NoRemainder}
 use Rattle.paper.specs.Blocks.{Block, block, free, held, remainder}
+use Rattle.paper.specs.Layout.{large}
 use Rattle.paper.specs.Sound.{Low, freeAt}
 
 abbrev pub AllHeld : List Block → Type 0
@@ -34,7 +35,7 @@ held-not-listed (block z remainder ∷ xs) h p y q = absurd h
 
 -- the last of large blocks, and those below it
 abbrev pub LastOf : List Block → Type 0
-LastOf xs = (us : List Block) × (z : ℕ) × (xs ≡ us ++ block z held ∷ []) × Low us × (72 ≤ z)
+LastOf xs = (us : List Block) × (z : ℕ) × (xs ≡ us ++ block z held ∷ []) × Low us × (large ≤ z)
 
 pub held-last : (xs : List Block) → AllHeld xs → Low xs → (xs ≡ []) ⊎ LastOf xs
 held-last [] h l = inl refl

@@ -26,6 +26,7 @@ use Rattle.paper.specs.GivingBack.{giveBack, giveBackLarge, left, settle
 use Rattle.paper.specs.Governed.{blockWord, sheet, walk}
 use Rattle.paper.specs.Granting.{R}
 use Rattle.paper.specs.Honest.{gives}
+use Rattle.paper.specs.Layout.{blocks-at, large}
 use Rattle.paper.specs.Runs.{endsAt, freeSize, startsAt, sumOf}
 use Rattle.paper.specs.Sound.{Low, Sized, WellFormed, freeAt}
 use Rattle.words.specs.Choice.{if=, if=-no, if=-yes}
@@ -40,8 +41,8 @@ unfolding left
 left-alone bins p q = if=-yes 0 0 _ _ refl ∙ if=-yes 0 0 _ _ refl
 
 module _ (s : State) (W : WellFormed s) (z x : ℕ) (l : List ℕ) (listed : s .bins z ≡ enter x l)
-    (us : List Block) (y : ℕ) (ws : List Block) (is : s .low ≡ us ++ block z free ∷ block y held ∷ ws) (starts : 168 + total us ≡ x)
-    (low-us : Low us) (large : 72 ≤ z) where
+    (us : List Block) (y : ℕ) (ws : List Block) (is : s .low ≡ us ++ block z free ∷ block y held ∷ ws) (starts : blocks-at + total us ≡ x)
+    (low-us : Low us) (is-large : large ≤ z) where
   abbrev vs : List Block
   vs = block y held ∷ ws
 
@@ -57,38 +58,38 @@ module _ (s : State) (W : WellFormed s) (z x : ℕ) (l : List ℕ) (listed : s .
   kept : Kept s before
   unfolding freeAt
   kept =
-      kept-low s W (us ++ block z held ∷ vs) (rebin (s .bins) z l) (low-hold us z z vs large (subst Low is (W .low-ok)))
+      kept-low s W (us ++ block z held ∷ vs) (rebin (s .bins) z l) (low-hold us z z vs is-large (subst Low is (W .low-ok)))
       (sized-mid us (block z held ∷ []) vs (parts .0) (parts .1) (parts .2))
       (omega (arith, ap total is, total-mid us (block z free ∷ []) vs, total-mid us (block z held ∷ []) vs))
       (λ w q. omega (
         arith,
         count-rebin-less (s .bins) z l x one-more w q,
-        ap (λ (k : List Block). freeAt k 168 w q) is,
-        freeAt-mid us (block z free ∷ []) vs 168 x (x + z) w q starts (omega arith),
-        freeAt-mid us (block z held ∷ []) vs 168 x (x + z) w q starts (omega arith),
+        ap (λ (k : List Block). freeAt k blocks-at w q) is,
+        freeAt-mid us (block z free ∷ []) vs blocks-at x (x + z) w q starts (omega arith),
+        freeAt-mid us (block z held ∷ []) vs blocks-at x (x + z) w q starts (omega arith),
       ))
 
   abbrev is-held : HeldLow before x z
-  is-held = record { before = us; after = vs; is = refl; starts = starts; sized = large }
+  is-held = record { before = us; after = vs; is = refl; starts = starts; sized = is-large }
 
   found : heldAt before (x + 4) ≡ z
   found = let i = held-in before x z (inl is-held) in heldAt-in before x z (i .0) (kept .well-formed .sized) (i .1)
 
   -- ---- nothing joins
 
-  none-below : endsAt freeSize (us ++ block z held ∷ vs) 168 x ≡ 0
+  none-below : endsAt freeSize (us ++ block z held ∷ vs) blocks-at x ≡ 0
   none-below =
       let t : Sized (block z held ∷ vs) = (parts .1 .0, parts .2) in
-      ends-append freeSize us (block z held ∷ vs) 168 x t
-      ∙ omega (arith, low-ends us 168 x low-us starts, ends-below freeSize (block z held ∷ vs) (168 + total us) x t (omega arith))
+      ends-append freeSize us (block z held ∷ vs) blocks-at x t
+      ∙ omega (arith, low-ends us blocks-at x low-us starts, ends-below freeSize (block z held ∷ vs) (blocks-at + total us) x t (omega arith))
 
-  none-above : startsAt freeSize (us ++ block z held ∷ vs) 168 (x + z) ≡ 0
+  none-above : startsAt freeSize (us ++ block z held ∷ vs) blocks-at (x + z) ≡ 0
   none-above =
-      starts-append freeSize us (block z held ∷ vs) 168 (x + z) (parts .0)
+      starts-append freeSize us (block z held ∷ vs) blocks-at (x + z) (parts .0)
       ∙ omega (
         arith,
-        starts-past freeSize us 168 (x + z) (parts .0) (omega arith),
-        held-above z y ws (168 + total us) (x + z) (omega arith) (omega arith),
+        starts-past freeSize us blocks-at (x + z) (parts .0) (omega arith),
+        held-above z y ws (blocks-at + total us) (x + z) (omega arith) (omega arith),
       )
 
   alone : giveBackLarge before x z ≡ settle before (rebin (s .bins) z l) x (x + z)
@@ -135,10 +136,10 @@ module _ (s : State) (W : WellFormed s) (z x : ℕ) (l : List ℕ) (listed : s .
   within : Within (sheet before) (sheet s)
   within =
       within-by-walk s before
-      (λ a m h. ap (λ (k : List Block). walk (blockWord (s .top) (end before) (rebin (s .bins) z l)) k 168 1 a) blocks-before
+      (λ a m h. ap (λ (k : List Block). walk (blockWord (s .top) (end before) (rebin (s .bins) z l)) k blocks-at 1 a) blocks-before
       ∙ walk-within-held (s .top) (end s) (end before) (s .bins) (rebin (s .bins) z l) (rebin-fewer (s .bins) z l x one-more)
-      (rebin-entered-firsts (s .bins) z x l listed) us z free (vs ++ block (s .rest) remainder ∷ s .high) 168 1 1 a (omega arith)
-      (ap (λ (k : List Block). walk (blockWord (s .top) (end s) (s .bins)) k 168 1 a) (sym blocks-are) ∙ h))
+      (rebin-entered-firsts (s .bins) z x l listed) us z free (vs ++ block (s .rest) remainder ∷ s .high) blocks-at 1 1 a (omega arith)
+      (ap (λ (k : List Block). walk (blockWord (s .top) (end s) (s .bins)) k blocks-at 1 a) (sym blocks-are) ∙ h))
 
   lighter : suc (weight before) ≡ weight s
   unfolding sumOf
@@ -168,11 +169,11 @@ unfolding enter
 entered a [] = (a, [], refl)
 entered a (b ∷ m) = (b, a ∷ m, refl)
 
-pub undo-large : (s : State) → WellFormed s → (z a : ℕ) (m : List ℕ) → 72 ≤ z → s .bins z ≡ a ∷ m → Undone s
-undo-large s W z a m large e =
+pub undo-large : (s : State) → WellFormed s → (z a : ℕ) (m : List ℕ) → large ≤ z → s .bins z ≡ a ∷ m → Undone s
+undo-large s W z a m is-large e =
     let n = entered a m in
     let listed : s .bins z ≡ enter (n .0) (n .1) = e ∙ n .2 in
-    let i = listed-in-low s W z (n .0) large (omega (arith, ap (count (n .0)) listed, count-enter-self (n .0) (n .1))) in
-    let r = in-parts (s .low) 168 1 (n .0) (block z free) (i .0) (i .1) in
+    let i = listed-in-low s W z (n .0) is-large (omega (arith, ap (count (n .0)) listed, count-enter-self (n .0) (n .1))) in
+    let r = in-parts (s .low) blocks-at 1 (n .0) (block z free) (i .0) (i .1) in
     let f = low-free (r .0) z (r .1) (subst Low (r .2) (W .low-ok)) in
-    undo-there s W z (n .0) (n .1) listed (r .0) (f .2) (f .3) (r .2 ∙ ap (λ (k : List Block). r .0 ++ block z free ∷ k) (f .4)) (r .3) (f .0) large
+    undo-there s W z (n .0) (n .1) listed (r .0) (f .2) (f .3) (r .2 ∙ ap (λ (k : List Block). r .0 ++ block z free ∷ k) (f .4)) (r .3) (f .0) is-large

@@ -24,11 +24,12 @@ use Rattle.paper.specs.GivingBack.{giveBack, giveBackSmall}
 use Rattle.paper.specs.Governed.{blockWord, sheet, walk}
 use Rattle.paper.specs.Granting.{E}
 use Rattle.paper.specs.Honest.{gives}
+use Rattle.paper.specs.Layout.{blocks-at, large}
 use Rattle.paper.specs.Runs.{sumOf}
 use Rattle.paper.specs.Sound.{High, Sized, WellFormed, freeAt}
 use Rattle.words.specs.Choice.{if=}
 
-module _ (s : State) (W : WellFormed s) (z x : ℕ) (l : List ℕ) (small : z < 72) (listed : s .bins z ≡ x ∷ l)
+module _ (s : State) (W : WellFormed s) (z x : ℕ) (l : List ℕ) (small : z < large) (listed : s .bins z ≡ x ∷ l)
     (us vs : List Block) (is : s .high ≡ us ++ block z free ∷ vs) (starts : E s + total us ≡ x) where
   abbrev before : State
   before = record { top = s .top; low = s .low; rest = s .rest; high = us ++ block z held ∷ vs; bins = rebin (s .bins) z l }
@@ -85,10 +86,10 @@ module _ (s : State) (W : WellFormed s) (z x : ℕ) (l : List ℕ) (small : z < 
   within : Within (sheet before) (sheet s)
   within =
       within-by-walk s before
-      (λ a m h. ap (λ (k : List Block). walk (blockWord (s .top) (end before) (rebin (s .bins) z l)) k 168 1 a) blocks-before
+      (λ a m h. ap (λ (k : List Block). walk (blockWord (s .top) (end before) (rebin (s .bins) z l)) k blocks-at 1 a) blocks-before
       ∙ walk-within-held (s .top) (end s) (end before) (s .bins) (rebin (s .bins) z l) (rebin-fewer (s .bins) z l x one-more)
-      (rebin-small-firsts (s .bins) z l small) below z free vs 168 1 1 a (omega arith)
-      (ap (λ (k : List Block). walk (blockWord (s .top) (end s) (s .bins)) k 168 1 a) (sym blocks-are) ∙ h))
+      (rebin-small-firsts (s .bins) z l small) below z free vs blocks-at 1 1 a (omega arith)
+      (ap (λ (k : List Block). walk (blockWord (s .top) (end s) (s .bins)) k blocks-at 1 a) (sym blocks-are) ∙ h))
 
   lighter : suc (weight before) ≡ weight s
   unfolding sumOf
@@ -122,7 +123,7 @@ module _ (s : State) (W : WellFormed s) (z x : ℕ) (l : List ℕ) (small : z < 
         lighter = lighter;
       }
 
-pub undo-small : (s : State) → WellFormed s → (z x : ℕ) (l : List ℕ) → z < 72 → s .bins z ≡ x ∷ l → Undone s
+pub undo-small : (s : State) → WellFormed s → (z x : ℕ) (l : List ℕ) → z < large → s .bins z ≡ x ∷ l → Undone s
 undo-small s W z x l small e =
     let i = listed-in-high s W z x small (omega (arith, ap (count x) e, count-here x l)) in
     let r = in-parts (s .high) (E s) 1 x (block z free) (i .0) (i .1) in

@@ -7,6 +7,7 @@ use native.Mathlib.Omega.{arith}
 use Rattle.paper.proofs.bins.Listed.{rebin-other, rebin-same}
 use Rattle.paper.proofs.sheet.Within.{CountOf, FirstOf}
 use Rattle.paper.specs.Bins.{count, enter, first, rebin}
+use Rattle.paper.specs.Layout.{large}
 use Rattle.words.specs.Choice.{by=, if=, ifs}
 
 module _ (f : ℕ → List ℕ) (z : ℕ) (l : List ℕ) where
@@ -31,7 +32,7 @@ module _ (f : ℕ → List ℕ) (z : ℕ) (l : List ℕ) where
     rebin-fewer y q = omega (arith, count-rebin-less y q)
 
 -- of a small size, the large bins are the same
-pub rebin-small-firsts : (f : ℕ → List ℕ) (z : ℕ) (l : List ℕ) → z < 72 → FirstOf (rebin f z l) f
+pub rebin-small-firsts : (f : ℕ → List ℕ) (z : ℕ) (l : List ℕ) → z < large → FirstOf (rebin f z l) f
 rebin-small-firsts f z l h y q m n e = ap first (sym (rebin-other f z l y (λ k. omega arith))) ∙ e
 
 -- of what entered, the first is the same, or there was none

@@ -17,6 +17,7 @@ use Rattle.paper.specs.Blocks.{Block, State, block, blocks, end, held, r
 use Rattle.paper.specs.Governed.{blockWord, sheet, walk}
 use Rattle.paper.specs.Granting.{E, Result, carryOut, choose, chooseLarge, chooseSmall, cutHigh, cutLow, smallestBin, take}
 use Rattle.paper.specs.Honest.{takes}
+use Rattle.paper.specs.Layout.{blocks-at, large}
 use Rattle.paper.specs.Runs.{sumOf}
 use Rattle.paper.specs.Sound.{High, Low, Sized, WellFormed, freeAt}
 use Rattle.words.specs.Choice.{if<-no, if<-yes, if=-no, if=-yes}
@@ -34,7 +35,7 @@ module _ (s : State) (empty : (y : ℕ) → s .bins y ≡ []) (b : ℕ) (eights 
   unfolding first
   none-first y = ap first (empty y)
 
-  cuts-low : 72 ≤ b → take s (b - 4) ≡ cutLow s b
+  cuts-low : large ≤ b → take s (b - 4) ≡ cutLow s b
   unfolding take choose chooseLarge
   cuts-low l =
       let k = blockSize-back b (omega arith) eights in
@@ -43,10 +44,10 @@ module _ (s : State) (empty : (y : ℕ) → s .bins y ≡ []) (b : ℕ) (eights 
       ∙ if<-no (blockSize (b - 4)) 72 _ _ (omega arith)
       ∙ ap (chooseLarge s) k
       ∙ if=-yes (first (s .bins b)) 0 _ _ (none-first b)
-      ∙ if=-yes (smallestBin s (b + 72)) 0 _ _ (smallest-none s (b + 72) (λ u _. none-first u))
+      ∙ if=-yes (smallestBin s (b + large)) 0 _ _ (smallest-none s (b + large) (λ u _. none-first u))
       ∙ if<-no (s .rest) (b + 8) _ _ room)
 
-  cuts-high : 8 ≤ b → b < 72 → take s (b - 4) ≡ cutHigh s b
+  cuts-high : 8 ≤ b → b < large → take s (b - 4) ≡ cutHigh s b
   unfolding take choose chooseSmall
   cuts-high m l =
       let k = blockSize-back b m eights in
@@ -60,7 +61,7 @@ module _ (s : State) (empty : (y : ℕ) → s .bins y ≡ []) (b : ℕ) (eights 
 -- ---- the last large block
 
 module _ (s : State) (W : WellFormed s) (empty : (y : ℕ) → s .bins y ≡ [])
-    (us : List Block) (z : ℕ) (is : s .low ≡ us ++ block z held ∷ []) (low-us : Low us) (large : 72 ≤ z) where
+    (us : List Block) (z : ℕ) (is : s .low ≡ us ++ block z held ∷ []) (low-us : Low us) (is-large : large ≤ z) where
   abbrev before-large : State
   before-large = record { top = s .top; low = us; rest = z + s .rest; high = s .high; bins = s .bins }
 
@@ -80,8 +81,8 @@ module _ (s : State) (W : WellFormed s) (empty : (y : ℕ) → s .bins y ≡ [])
         arith,
         W .listed y q,
         freeAt-runs s y q,
-        ap (λ (k : List Block). freeAt k 168 y q) is,
-        freeAt-append us (block z held ∷ []) 168 y q,
+        ap (λ (k : List Block). freeAt k blocks-at y q) is,
+        freeAt-append us (block z held ∷ []) blocks-at y q,
         ap (λ (k : ℕ). freeAt (s .high) k y q) e,
       ))
 
@@ -89,7 +90,7 @@ module _ (s : State) (W : WellFormed s) (empty : (y : ℕ) → s .bins y ≡ [])
   unfolding cutLow
   leads-large =
       let e : z + s .rest - z ≡ s .rest = omega arith in
-      ap (λ (r : Result). r .state) (cuts-low before-large empty z (parts-large .1 .0 .1) (omega (arith, sized-rest s W)) large)
+      ap (λ (r : Result). r .state) (cuts-low before-large empty z (parts-large .1 .0 .1) (omega (arith, sized-rest s W)) is-large)
       ∙ (λ i. record { top = s .top; low = sym is i; rest = e i; high = s .high; bins = s .bins })
 
   blocks-large : blocks s ≡ us ++ block z held ∷ block (s .rest) remainder ∷ s .high
@@ -101,8 +102,8 @@ module _ (s : State) (W : WellFormed s) (empty : (y : ℕ) → s .bins y ≡ [])
   within-large =
       within-by-walk s before-large
       (λ a m h. walk-within-joined (s .top) (end s) (end before-large) (s .bins) (s .bins) (λ y q. omega arith) (λ y q l n e. e)
-      us z held (s .rest) remainder (s .high) 168 1 1 a (omega arith) m (omega arith)
-      (ap (λ (k : List Block). walk (blockWord (s .top) (end s) (s .bins)) k 168 1 a) (sym blocks-large) ∙ h))
+      us z held (s .rest) remainder (s .high) blocks-at 1 1 a (omega arith) m (omega arith)
+      (ap (λ (k : List Block). walk (blockWord (s .top) (end s) (s .bins)) k blocks-at 1 a) (sym blocks-large) ∙ h))
 
   lighter-large : suc (weight before-large) ≡ weight s
   unfolding sumOf
@@ -169,8 +170,8 @@ module _ (s : State) (W : WellFormed s) (empty : (y : ℕ) → s .bins y ≡ [])
   within-small =
       within-by-walk s before-small
       (λ a m h. walk-within-joined (s .top) (end s) (end before-small) (s .bins) (s .bins) (λ y q. omega arith) (λ y q l n e. e)
-      (s .low) (s .rest) remainder z held vs 168 1 1 a (omega arith) m (omega (arith, sized-rest s W))
-      (ap (λ (k : List Block). walk (blockWord (s .top) (end s) (s .bins)) k 168 1 a) (sym blocks-small) ∙ h))
+      (s .low) (s .rest) remainder z held vs blocks-at 1 1 a (omega arith) m (omega (arith, sized-rest s W))
+      (ap (λ (k : List Block). walk (blockWord (s .top) (end s) (s .bins)) k blocks-at 1 a) (sym blocks-small) ∙ h))
 
   lighter-small : suc (weight before-small) ≡ weight s
   unfolding sumOf

@@ -16,6 +16,7 @@ use Rattle.paper.proofs.reads.Unique.{high-no-remainder, low-no-remaind
 use Rattle.paper.specs.Bins.{count}
 use Rattle.paper.specs.Blocks.{Block, State, block, blocks, free, held, total}
 use Rattle.paper.specs.Granting.{E}
+use Rattle.paper.specs.Layout.{blocks-at, large}
 use Rattle.paper.specs.Sound.{WellFormed, freeAt}
 use Rattle.words.specs.Choice.{by<, if=, if=-yes}
 
@@ -31,22 +32,22 @@ pub record Bare (s : State) : Type 0 where
 
 module _ (s : State) (W : WellFormed s) where
   -- a free block is in its bin, which then has one that entered last
-  free-undone : (z q : ℕ) → 1 ≤ freeAt (blocks s) 168 z q → Undone s
+  free-undone : (z q : ℕ) → 1 ≤ freeAt (blocks s) blocks-at z q → Undone s
   free-undone z q h = go (s .bins z) refl
     where
       go : (l : List ℕ) → s .bins z ≡ l → Undone s
       go [] e = absurd (omega (arith, W .listed z q, ap (count q) e, count-nil q))
-      go (x ∷ l) e = by< z 72 (λ m. undo-small s W z x l m e) (λ m. undo-large s W z x l m e)
+      go (x ∷ l) e = by< z large (λ m. undo-small s W z x l m e) (λ m. undo-large s W z x l m e)
 
   low-undone : (us : List Block) (z : ℕ) (vs : List Block) → s .low ≡ us ++ block z free ∷ vs → Undone s
   low-undone us z vs is =
-      free-undone z (168 + total us)
+      free-undone z (blocks-at + total us)
       (omega (
         arith,
-        freeAt-runs s z (168 + total us),
-        ap (λ (k : List Block). freeAt k 168 z (168 + total us)) is,
-        freeAt-mid us (block z free ∷ []) vs 168 (168 + total us) (168 + total us + z) z (168 + total us) refl (omega arith),
-        free-here z (168 + total us),
+        freeAt-runs s z (blocks-at + total us),
+        ap (λ (k : List Block). freeAt k blocks-at z (blocks-at + total us)) is,
+        freeAt-mid us (block z free ∷ []) vs blocks-at (blocks-at + total us) (blocks-at + total us + z) z (blocks-at + total us) refl (omega arith),
+        free-here z (blocks-at + total us),
       ))
 
   high-undone : (us : List Block) (z : ℕ) (vs : List Block) → s .high ≡ us ++ block z free ∷ vs → Undone s
@@ -63,7 +64,7 @@ module _ (s : State) (W : WellFormed s) where
   empty-bins : AllHeld (s .low) → AllHeld (s .high) → (y : ℕ) → s .bins y ≡ []
   empty-bins a b y =
       nil-of (s .bins y)
-      (λ q. omega (arith, W .listed y q, freeAt-runs s y q, held-not-listed (s .low) a 168 y q, held-not-listed (s .high) b (E s) y q))
+      (λ q. omega (arith, W .listed y q, freeAt-runs s y q, held-not-listed (s .low) a blocks-at y q, held-not-listed (s .high) b (E s) y q))
 
   -- all blocks are held
   held-undone : AllHeld (s .low) → AllHeld (s .high) → Undone s ⊎ Bare s

@@ -9,6 +9,7 @@ use Rattle.paper.proofs.runs.Walk.{sized-append, sized-parts, total-app
 use Rattle.paper.specs.Bins.{count}
 use Rattle.paper.specs.Blocks.{Block, State, block, blocks, end, remainder, total}
 use Rattle.paper.specs.Granting.{E}
+use Rattle.paper.specs.Layout.{blocks-at}
 use Rattle.paper.specs.Sound.{High, Low, Sized, WellFormed, freeAt}
 
 pub record Kept (s s' : State) : Type 0 where
@@ -20,9 +21,9 @@ pub kept-same : (s : State) → WellFormed s → Kept s s
 kept-same s W = record { well-formed = W; ends = refl; same-top = refl }
 
 -- the free blocks of a state are those of its two runs
-pub freeAt-runs : (s : State) (y q : ℕ) → freeAt (blocks s) 168 y q ≡ freeAt (s .low) 168 y q + freeAt (s .high) (E s) y q
+pub freeAt-runs : (s : State) (y q : ℕ) → freeAt (blocks s) blocks-at y q ≡ freeAt (s .low) blocks-at y q + freeAt (s .high) (E s) y q
 unfolding freeAt
-freeAt-runs s y q = freeAt-append (s .low) (block (s .rest) remainder ∷ s .high) 168 y q
+freeAt-runs s y q = freeAt-append (s .low) (block (s .rest) remainder ∷ s .high) blocks-at y q
 
 pub end-runs : (s : State) → end s ≡ E s + total (s .high)
 end-runs s = omega (arith, total-append (s .low) (block (s .rest) remainder ∷ s .high))
@@ -44,7 +45,7 @@ module _ (s : State) (W : WellFormed s) where
 
     pub kept-by : Low lo → High hi → Sized lo → ((8 ≤ r) × (r % 8 ≡ 0)) → Sized hi
         → total lo + r + total hi ≡ total (s .low) + s .rest + total (s .high)
-        → ((y q : ℕ) → count q (bins' y) ≡ freeAt lo 168 y q + freeAt hi (168 + total lo + r) y q)
+        → ((y q : ℕ) → count q (bins' y) ≡ freeAt lo blocks-at y q + freeAt hi (blocks-at + total lo + r) y q)
         → Kept s changed
     kept-by l h sl sr sh t c =
         let e : end changed ≡ end s = omega (arith, end-runs s, end-runs changed) in
@@ -64,11 +65,11 @@ module _ (s : State) (W : WellFormed s) where
 
   -- another low run of the same size in all
   pub kept-low : (lo : List Block) (bins' : ℕ → List ℕ) → Low lo → Sized lo → total lo ≡ total (s .low)
-      → ((y q : ℕ) → count q (bins' y) + freeAt (s .low) 168 y q ≡ count q (s .bins y) + freeAt lo 168 y q)
+      → ((y q : ℕ) → count q (bins' y) + freeAt (s .low) blocks-at y q ≡ count q (s .bins y) + freeAt lo blocks-at y q)
       → Kept s (record { top = s .top; low = lo; rest = s .rest; high = s .high; bins = bins' })
   kept-low lo bins' l sl t c =
       kept-by lo (s .rest) (s .high) bins' l (W .high-ok) sl sized-rest sized-high (omega arith)
-      (λ y q. omega (arith, c y q, W .listed y q, freeAt-runs s y q, ap (λ (k : ℕ). freeAt (s .high) (168 + k + s .rest) y q) t))
+      (λ y q. omega (arith, c y q, W .listed y q, freeAt-runs s y q, ap (λ (k : ℕ). freeAt (s .high) (blocks-at + k + s .rest) y q) t))
 
   -- another high run of the same size in all
   pub kept-high : (hi : List Block) (bins' : ℕ → List ℕ) → High hi → Sized hi → total hi ≡ total (s .high)

@@ -18,28 +18,29 @@ use Rattle.paper.specs.declared.Answer.the-variants.{Done}
 use Rattle.paper.specs.Bins.{first, used}
 use Rattle.paper.specs.Blocks.{Block, State, block, blocks, free, held, remainder, size}
 use Rattle.paper.specs.Granting.{E, R, Result, carryOut, cutHigh, cutLow, granted, refused, take, takeFirst, takePart, takeWhole}
+use Rattle.paper.specs.Layout.{blocks-at, large}
 use Rattle.paper.specs.Runs.{replace, under}
 use Rattle.paper.specs.Sound.{WellFormed}
 
 -- b bytes of s that start at a are in no held block
 abbrev pub Free : State → ℕ → ℕ → Type 0
-Free s a b = (q z P : ℕ) → In (blocks s) 168 1 q (block z held) P → (q + z ≤ a) ⊎ (a + b ≤ q)
+Free s a b = (q z P : ℕ) → In (blocks s) blocks-at 1 q (block z held) P → (q + z ≤ a) ⊎ (a + b ≤ q)
 
 -- what a grant of b bytes means, if it is one: where the block is, of which bytes it was made
 abbrev Grants : State → ℕ → Result → Type 0
 Grants s b r =
-    (o : ℕ) → r .answer ≡ Done o → (a : ℕ) × (o ≡ a + 4) × ((P : ℕ) × In (blocks (r .state)) 168 1 a (block b held) P) × Free s a b
+    (o : ℕ) → r .answer ≡ Done o → (a : ℕ) × (o ≡ a + 4) × ((P : ℕ) × In (blocks (r .state)) blocks-at 1 a (block b held) P) × Free s a b
 
 refused-grants : (s : State) (b k : ℕ) → Grants s b (refused k s)
 refused-grants s b k o e = absurd (let z : _≡_ {A = ℕ} 0 1 = cc in omega arith)
 
-granted-grants : (s : State) (b a : ℕ) (s' : State) (P : ℕ) → In (blocks s') 168 1 a (block b held) P → Free s a b → Grants s b (granted a s')
+granted-grants : (s : State) (b a : ℕ) (s' : State) (P : ℕ) → In (blocks s') blocks-at 1 a (block b held) P → Free s a b → Grants s b (granted a s')
 granted-grants s b a s' P i f o e = (a, cc, (P, i), f)
 
 -- a part of a block that is not held is free
-part-free : (s : State) (r : ℕ) (c : Block) (P' : ℕ) → In (blocks s) 168 1 r c P' → ((z : ℕ) → block z held ≡ c → ⊥)
+part-free : (s : State) (r : ℕ) (c : Block) (P' : ℕ) → In (blocks s) blocks-at 1 r c P' → ((z : ℕ) → block z held ≡ c → ⊥)
     → (a b : ℕ) → r ≤ a → a + b ≤ r + size c → Free s a b
-part-free s r c P' i n a b l m q z P j = go (in-apart (blocks s) 168 1 q (block z held) P r c P' j i)
+part-free s r c P' i n a b l m q z P j = go (in-apart (blocks s) blocks-at 1 q (block z held) P r c P' j i)
   where
     go : ((q ≡ r) × (block z held ≡ c)) ⊎ (q + z ≤ r) ⊎ (r + size c ≤ q) → (q + z ≤ a) ⊎ (a + b ≤ q)
     go (inl e) = absurd (n z (e .1))
@@ -56,17 +57,17 @@ module _ (s : State) (W : WellFormed s) (b : ℕ) where
   rest-free : (a : ℕ) → R s ≤ a → a + b ≤ E s → Free s a b
   rest-free a l m =
       part-free s (R s) (block (s .rest) remainder) (flagPast 1 (s .low))
-      (in-mid (s .low) (block (s .rest) remainder ∷ s .high) 168 1 (R s) (block (s .rest) remainder) (flagPast 1 (s .low)) (inl (refl, refl, refl)))
+      (in-mid (s .low) (block (s .rest) remainder ∷ s .high) blocks-at 1 (R s) (block (s .rest) remainder) (flagPast 1 (s .low)) (inl (refl, refl, refl)))
       (remainder-not-held (s .rest)) a b l m
 
-  low-free : (z q P : ℕ) → b ≤ z → In (s .low) 168 1 q (block z free) P → Free s q b
+  low-free : (z q P : ℕ) → b ≤ z → In (s .low) blocks-at 1 q (block z free) P → Free s q b
   low-free z q P l i =
-      part-free s q (block z free) P (in-left (s .low) (block (s .rest) remainder ∷ s .high) 168 1 q (block z free) P i)
+      part-free s q (block z free) P (in-left (s .low) (block (s .rest) remainder ∷ s .high) blocks-at 1 q (block z free) P i)
       (free-not-held z) q b (omega arith) (omega arith)
 
   high-free : (q P : ℕ) → In (s .high) (E s) 1 q (block b free) P → Free s q b
   high-free q P i =
-      part-free s q (block b free) P (in-mid (s .low) (block (s .rest) remainder ∷ s .high) 168 1 q (block b free) P (inr i))
+      part-free s q (block b free) P (in-mid (s .low) (block (s .rest) remainder ∷ s .high) blocks-at 1 q (block b free) P (inr i))
       (free-not-held b) q b (omega arith) (omega arith)
 
   -- ---- small
@@ -75,16 +76,16 @@ module _ (s : State) (W : WellFormed s) (b : ℕ) where
   cutHigh-grants l =
       let e : E s - b ≡ R s + (s .rest - b) = omega arith in
       granted-grants s b (E s - b) (cutHigh s b .state) 1
-      (in-mid (s .low) (block (s .rest - b) remainder ∷ block b held ∷ s .high) 168 1 (E s - b) (block b held) 1 (inr (inl (e, refl, refl))))
+      (in-mid (s .low) (block (s .rest - b) remainder ∷ block b held ∷ s .high) blocks-at 1 (E s - b) (block b held) 1 (inr (inl (e, refl, refl))))
       (rest-free (E s - b) (omega arith) (omega arith))
 
-  takeFirst-grants : b < 72 → first (s .bins b) ≢ 0 → Grants s b (takeFirst s b)
+  takeFirst-grants : b < large → first (s .bins b) ≢ 0 → Grants s b (takeFirst s b)
   unfolding takeFirst
   takeFirst-grants small n =
       let q = first (s .bins b) in
       let i = first-in-high s W b small n in
       granted-grants s b q (takeFirst s b .state) (flagPast 1 (under (s .high) (E s) q))
-      (in-mid (s .low) (block (s .rest) remainder ∷ replace (s .high) (E s) q (q + b) (block b held ∷ [])) 168 1 q (block b held)
+      (in-mid (s .low) (block (s .rest) remainder ∷ replace (s .high) (E s) q (q + b) (block b held ∷ [])) blocks-at 1 q (block b held)
       (flagPast 1 (under (s .high) (E s) q))
       (inr (in-replaced (s .high) (E s) 1 q (block b free) (i .0) (sized-high s W) (i .1) (block b held) [])))
       (high-free q (i .0) (i .1))
@@ -94,27 +95,27 @@ module _ (s : State) (W : WellFormed s) (b : ℕ) where
   unfolding cutLow
   cutLow-grants l =
       granted-grants s b (R s) (cutLow s b .state) (flagPast 1 (s .low))
-      (in-left (s .low ++ block b held ∷ []) (block (s .rest - b) remainder ∷ s .high) 168 1 (R s) (block b held) (flagPast 1 (s .low))
-      (in-mid (s .low) (block b held ∷ []) 168 1 (R s) (block b held) (flagPast 1 (s .low)) (inl (refl, refl, refl))))
+      (in-left (s .low ++ block b held ∷ []) (block (s .rest - b) remainder ∷ s .high) blocks-at 1 (R s) (block b held) (flagPast 1 (s .low))
+      (in-mid (s .low) (block b held ∷ []) blocks-at 1 (R s) (block b held) (flagPast 1 (s .low)) (inl (refl, refl, refl))))
       (rest-free (R s) (omega arith) (omega arith))
 
   -- the low b bytes of a free block of size z, with some blocks above them
-  low-grants : (z q P : ℕ) (new : List Block) → b ≤ z → In (s .low) 168 1 q (block z free) P → (s' : State)
-      → s' .low ≡ replace (s .low) 168 q (q + z) (block b held ∷ new) → Grants s b (granted q s')
+  low-grants : (z q P : ℕ) (new : List Block) → b ≤ z → In (s .low) blocks-at 1 q (block z free) P → (s' : State)
+      → s' .low ≡ replace (s .low) blocks-at q (q + z) (block b held ∷ new) → Grants s b (granted q s')
   low-grants z q P new l i s' e =
-      granted-grants s b q s' (flagPast 1 (under (s .low) 168 q))
-      (in-left (s' .low) (block (s' .rest) remainder ∷ s' .high) 168 1 q (block b held) (flagPast 1 (under (s .low) 168 q))
-      (rw e (in-replaced (s .low) 168 1 q (block z free) P (sized-low s W) i (block b held) new)))
+      granted-grants s b q s' (flagPast 1 (under (s .low) blocks-at q))
+      (in-left (s' .low) (block (s' .rest) remainder ∷ s' .high) blocks-at 1 q (block b held) (flagPast 1 (under (s .low) blocks-at q))
+      (rw e (in-replaced (s .low) blocks-at 1 q (block z free) P (sized-low s W) i (block b held) new)))
       (low-free z q P l i)
 
-  module _ (large : 72 ≤ b) where
+  module _ (is-large : large ≤ b) where
     takeWhole-grants : first (s .bins b) ≢ 0 → Grants s b (takeWhole s b)
     unfolding takeWhole
     takeWhole-grants n =
-        let i = used-in-low s W b large n in
+        let i = used-in-low s W b is-large n in
         low-grants b (used (s .bins b)) (i .0) [] (omega arith) (i .1) (takeWhole s b .state) refl
 
-    takePart-grants : (z : ℕ) → b + 72 ≤ z → first (s .bins z) ≢ 0 → Grants s b (takePart s z b)
+    takePart-grants : (z : ℕ) → b + large ≤ z → first (s .bins z) ≢ 0 → Grants s b (takePart s z b)
     unfolding takePart
     takePart-grants z l n =
         let i = used-in-low s W z (omega arith) n in
@@ -145,7 +146,7 @@ module _ (s : State) (W : WellFormed s) (payload o : ℕ) (e : take s payload .a
       subst (λ (k : ℕ). heldAt (take s payload .state) k ≡ blockSize payload) (sym (r .1))
       (heldAt-in (take s payload .state) (r .0) (blockSize payload) (r .2 .0) (take-well-formed s W payload .sized) (r .2 .1))
 
-  pub take-was-free : (q z P : ℕ) → In (blocks s) 168 1 q (block z held) P → (q + z ≤ o - 4) ⊎ (o - 4 + blockSize payload ≤ q)
+  pub take-was-free : (q z P : ℕ) → In (blocks s) blocks-at 1 q (block z held) P → (q + z ≤ o - 4) ⊎ (o - 4 + blockSize payload ≤ q)
   take-was-free =
       let r = take-places s W payload o e in
       let d : r .0 ≡ o - 4 = omega (arith, r .1) in

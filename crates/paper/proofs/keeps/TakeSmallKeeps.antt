@@ -13,10 +13,11 @@ use Rattle.paper.proofs.runs.Replaced.{replaced-by, replaced-freeAt, re
 use Rattle.paper.specs.Bins.{first, leave, rebin}
 use Rattle.paper.specs.Blocks.{State, block, free, held}
 use Rattle.paper.specs.Granting.{E, R, cutHigh, takeFirst}
+use Rattle.paper.specs.Layout.{large}
 use Rattle.paper.specs.Runs.{from, replace, under}
 use Rattle.paper.specs.Sound.{High, WellFormed, freeAt}
 
-module _ (s : State) (W : WellFormed s) (b : ℕ) (small : b < 72) (least : 8 ≤ b) (eights : b % 8 ≡ 0) where
+module _ (s : State) (W : WellFormed s) (b : ℕ) (small : b < large) (least : 8 ≤ b) (eights : b % 8 ≡ 0) where
   pub takeFirst-keeps : first (s .bins b) ≢ 0 → Kept s (takeFirst s b .state)
   unfolding takeFirst freeAt
   takeFirst-keeps n =

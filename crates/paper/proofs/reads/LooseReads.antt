@@ -19,6 +19,7 @@ use Rattle.paper.proofs.sheet.Written.{holds-word}
 use Rattle.paper.specs.Bins.{count, first, nextIn, prevIn}
 use Rattle.paper.specs.Blocks.{Kind, State, block, blocks, end, free, remainder, size}
 use Rattle.paper.specs.Governed.{above, headWord, height, link, reach, sheet}
+use Rattle.paper.specs.Layout.{blocks-at, false-block, large, next-at, previous-at}
 use Rattle.paper.specs.Sheet.{Holds}
 use Rattle.words.specs.Choice.{by<, by=}
 use Rattle.words.specs.Words.{wordAt}
@@ -60,10 +61,10 @@ module _ (s : State) (W : Loose s) where
   pub bin-unique : (q y z : ℕ) → 1 ≤ count q (s .bins y) → 1 ≤ count q (s .bins z) → y ≡ z
   bin-unique q y z i k =
       let f = W .found y q i in let g = W .found z q k in
-      ap size (in-unique (blocks s) 168 1 q (block y free) (block z free) (f .0) (g .0) (W .sized) (f .1) (g .1) .0)
+      ap size (in-unique (blocks s) blocks-at 1 q (block y free) (block z free) (f .0) (g .0) (W .sized) (f .1) (g .1) .0)
 
   pub listed-size : (q y : ℕ) → 1 ≤ count q (s .bins y) → (8 ≤ y) × (y % 8 ≡ 0)
-  listed-size q y i = let f = W .found y q i in in-sized (blocks s) 168 1 q (block y free) (f .0) (W .sized) (f .1)
+  listed-size q y i = let f = W .found y q i in in-sized (blocks s) blocks-at 1 q (block y free) (f .0) (W .sized) (f .1)
 
   pub no-zero-listed : (y : ℕ) → count 0 (s .bins y) ≡ 0
   no-zero-listed y = by= (count 0 (s .bins y)) 0 (λ e. e) (λ n. absurd (omega (arith, start s W y 0 (omega arith) .0)))
@@ -72,25 +73,25 @@ module _ (bs : List ℕ) (s : State) (W : Loose s) (fits : end s ≤ 65536) (l :
   pub word-reads : (a v : ℕ) → a % 4 ≡ 0 → a + 4 ≤ end s → v < 256 ^ 4 → sheet s a ≡ some v → wordAt 4 bs a ≡ v
   word-reads a v al b c e = holds-word (sheet s) bs a v h al (omega arith) c e
 
-  pub head-word-reads : (q z : ℕ) (k : Kind) (P : ℕ) → In (blocks s) 168 1 q (block z k) P → wordAt 4 bs q ≡ headWord z k P
+  pub head-word-reads : (q z : ℕ) (k : Kind) (P : ℕ) → In (blocks s) blocks-at 1 q (block z k) P → wordAt 4 bs q ≡ headWord z k P
   head-word-reads q z k P i =
-      let sol = in-sized (blocks s) 168 1 q (block z k) P (W .sized) i in
-      let hi = in-high (blocks s) 168 1 q (block z k) P i in
-      let al = in-aligned (blocks s) 168 1 q (block z k) P (W .sized) refl i in
-      let fl = in-flag (blocks s) 168 1 q (block z k) P (omega arith) i in
+      let sol = in-sized (blocks s) blocks-at 1 q (block z k) P (W .sized) i in
+      let hi = in-high (blocks s) blocks-at 1 q (block z k) P i in
+      let al = in-aligned (blocks s) blocks-at 1 q (block z k) P (W .sized) refl i in
+      let fl = in-flag (blocks s) blocks-at 1 q (block z k) P (omega arith) i in
       word-reads q (headWord z k P) (omega arith) (omega arith) (omega (arith, heldBit-le k)) (at-head s q z k P i (omega arith))
 
   -- of a listed large block q
-  module _ (q z : ℕ) (large : 72 ≤ z) (i : 1 ≤ count q (s .bins z)) where
-    pub previous-reads : (v : ℕ) → prevIn 0 (s .bins z) q ≡ some v → wordAt 4 bs (q + 4) ≡ linkWord q v
+  module _ (q z : ℕ) (is-large : large ≤ z) (i : 1 ≤ count q (s .bins z)) where
+    pub previous-reads : (v : ℕ) → prevIn 0 (s .bins z) q ≡ some v → wordAt 4 bs (q + previous-at) ≡ linkWord q v
     previous-reads v e =
         let f = W .found z q i in let st = start s W z q i in
-        word-reads (q + 4) (linkWord q v) (omega arith) (omega arith) (linkWord-small q v) (at-back s q z (f .0) (f .1) large ∙ ap (link q) e)
+        word-reads (q + previous-at) (linkWord q v) (omega arith) (omega arith) (linkWord-small q v) (at-back s q z (f .0) (f .1) is-large ∙ ap (link q) e)
 
-    pub following-reads : (v : ℕ) → nextIn (s .bins z) q ≡ some v → wordAt 4 bs (q + 8) ≡ linkWord q v
+    pub following-reads : (v : ℕ) → nextIn (s .bins z) q ≡ some v → wordAt 4 bs (q + next-at) ≡ linkWord q v
     following-reads v e =
         let f = W .found z q i in let st = start s W z q i in
-        word-reads (q + 8) (linkWord q v) (omega arith) (omega arith) (linkWord-small q v) (at-on s q z (f .0) (f .1) large ∙ ap (link q) e)
+        word-reads (q + next-at) (linkWord q v) (omega arith) (omega arith) (linkWord-small q v) (at-on s q z (f .0) (f .1) is-large ∙ ap (link q) e)
 
     -- the index words of a first block
     pub index-reads : first (s .bins z) ≡ q → (j : ℕ) → 1 ≤ j → j ≤ height (s .top) z
@@ -98,11 +99,11 @@ module _ (bs : List ℕ) (s : State) (W : Loose s) (fits : end s ≤ 65536) (l :
     index-reads e j j1 jh =
         let f = W .found z q i in let st = start s W z q i in
         let j13 : j ≤ 13 = omega (arith, height-le (s .top) z, W .top13) in
-        word-reads (q + (68 - 4 * j)) _ (omega arith) (omega arith) (linkWord-small q _) (at-word s q z (f .0) (f .1) large e j j1 jh (W .top13))
+        word-reads (q + (68 - 4 * j)) _ (omega arith) (omega arith) (linkWord-small q _) (at-word s q z (f .0) (f .1) is-large e j j1 jh (W .top13))
 
-  pub false-reads : (j : ℕ) → 1 ≤ j → j ≤ s .top → wordAt 4 bs (96 + (68 - 4 * j)) ≡ linkWord 96 (above (s .top) (end s) (s .bins) j 64)
+  pub false-reads : (j : ℕ) → 1 ≤ j → j ≤ s .top → wordAt 4 bs (false-block + (68 - 4 * j)) ≡ linkWord false-block (above (s .top) (end s) (s .bins) j 64)
   false-reads j j1 jt =
-      word-reads (96 + (68 - 4 * j)) _ (omega (arith, W .top13)) (omega (arith, long)) (linkWord-small 96 _) (false-word s j j1 jt (W .top13))
+      word-reads (false-block + (68 - 4 * j)) _ (omega (arith, W .top13)) (omega (arith, long)) (linkWord-small false-block _) (false-word s j j1 jt (W .top13))
     where
       long : 176 ≤ end s
       long = omega (

@@ -20,6 +20,7 @@ use Rattle.paper.proofs.sheet.Within.{governed-is-some}
 use Rattle.paper.proofs.sheet.Written.{holds-through, length-write, write-keeps}
 use Rattle.paper.specs.Blocks.{State, block, blocks, end, held}
 use Rattle.paper.specs.Governed.{sheet}
+use Rattle.paper.specs.Layout.{blocks-at}
 use Rattle.paper.specs.Sheet.{write}
 use Rattle.paper.specs.Sound.{Sized, Sound, WellFormed}
 use Rattle.words.specs.Choice.{by<, if=-no}
@@ -29,13 +30,13 @@ pub record InPayload (s : State) (i : ℕ) : Type 0 where
   pub start : ℕ
   pub size : ℕ
   pub flag : ℕ
-  pub at : In (blocks s) 168 1 start (block size held) flag
+  pub at : In (blocks s) blocks-at 1 start (block size held) flag
   pub past-head : start + 4 ≤ i
   pub before-end : i < start + size
 
 pub payload-ungoverned : (s : State) → Sized (blocks s) → (i : ℕ) → InPayload s i → sheet s (i / 4 * 4) ≡ none
 payload-ungoverned s S i p =
-    let a = in-aligned (blocks s) 168 1 (p .start) (block (p .size) held) (p .flag) S refl (p .at) in
+    let a = in-aligned (blocks s) blocks-at 1 (p .start) (block (p .size) held) (p .flag) S refl (p .at) in
     let e : i / 4 * 4 ≡ p .start + (i / 4 * 4 - p .start) = omega (arith, p .past-head, a) in
     ap (sheet s) e
     ∙ at-block s (p .start) (block (p .size) held) (p .flag) (i / 4 * 4 - p .start) (p .at) (omega (arith, p .before-end, p .past-head, a))
@@ -59,11 +60,11 @@ stands-same-outside s bs bs' S l k =
     at i b (some v) e = inr (k i b (λ p. governed-is-some v (sym e ∙ payload-ungoverned s (S .well-formed .sized) i p)))
 
 -- a part in one held payload is replaced by another, as long
-pub stands-part-replaced : (s : State) (bs : List ℕ) → Stands s bs → (q z P : ℕ) → In (blocks s) 168 1 q (block z held) P
+pub stands-part-replaced : (s : State) (bs : List ℕ) → Stands s bs → (q z P : ℕ) → In (blocks s) blocks-at 1 q (block z held) P
     → (a : ℕ) (part : List ℕ) → q + 4 ≤ a → a + length part ≤ q + z
     → Stands s (replacedPart bs a part)
 stands-part-replaced s bs S q z P h a part l m =
-    let n : a + length part ≤ length bs = omega (arith, S .ends, in-high (blocks s) 168 1 q (block z held) P h) in
+    let n : a + length part ≤ length bs = omega (arith, S .ends, in-high (blocks s) blocks-at 1 q (block z held) P h) in
     stands-same-outside s bs (replacedPart bs a part) S (replaced-length bs a part n)
     (λ i b p. by< i a (λ c. replaced-below bs a part n i c)
     (λ c. by< i (a + length part)
@@ -86,7 +87,7 @@ pub payloads-apart : (s : State) → WellFormed s → (offset other : ℕ) → 1
 payloads-apart s W offset other l m n =
     let h = held-in s (offset - 4) (heldAt s offset) (held-at-lies s W offset l) in
     let k = held-in s (other - 4) (heldAt s other) (held-at-lies s W other m) in
-    go (in-apart (blocks s) 168 1 (offset - 4) (block (heldAt s offset) held) (h .0) (other - 4) (block (heldAt s other) held) (k .0) (h .1) (k .1))
+    go (in-apart (blocks s) blocks-at 1 (offset - 4) (block (heldAt s offset) held) (h .0) (other - 4) (block (heldAt s other) held) (k .0) (h .1) (k .1))
   where
     go : ((offset - 4 ≡ other - 4) × (block (heldAt s offset) held ≡ block (heldAt s other) held))
         ⊎ (offset - 4 + heldAt s offset ≤ other - 4)

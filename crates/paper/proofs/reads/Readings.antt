@@ -17,6 +17,7 @@ use Rattle.paper.proofs.sheet.Written.{holds-word}
 use Rattle.paper.specs.Bins.{count, first, nextIn, prevIn}
 use Rattle.paper.specs.Blocks.{Kind, State, block, blocks, end, free, remainder, total}
 use Rattle.paper.specs.Governed.{headWord, headerWord, index, link, sheet, smallWord}
+use Rattle.paper.specs.Layout.{blocks-at, end-at, false-block, large, level-at, next-at, previous-at, small-bins, small-next-at, start-at}
 use Rattle.paper.specs.Sheet.{Holds}
 use Rattle.paper.specs.Sound.{WellFormed}
 use Rattle.words.specs.Choice.{by=, if<, if<-yes, if=, if=-no, if=-yes, ifs}
@@ -27,12 +28,12 @@ module _ (bs : List ℕ) (s : State) (W : WellFormed s) (l : length bs ≡ end s
   pub reads : (a v : ℕ) → a % 4 ≡ 0 → a + 4 ≤ end s → v < 256 ^ 4 → sheet s a ≡ some v → wordAt 4 bs a ≡ v
   reads a v al b c e = holds-word (sheet s) bs a v h al (omega arith) c e
 
-  pub head-reads : (q z : ℕ) (k : Kind) (P : ℕ) → In (blocks s) 168 1 q (block z k) P → wordAt 4 bs q ≡ headWord z k P
+  pub head-reads : (q z : ℕ) (k : Kind) (P : ℕ) → In (blocks s) blocks-at 1 q (block z k) P → wordAt 4 bs q ≡ headWord z k P
   head-reads q z k P i =
-      let sol = in-sized (blocks s) 168 1 q (block z k) P (W .sized) i in
-      let hi = in-high (blocks s) 168 1 q (block z k) P i in
-      let al = in-aligned (blocks s) 168 1 q (block z k) P (W .sized) refl i in
-      let fl = in-flag (blocks s) 168 1 q (block z k) P (omega arith) i in
+      let sol = in-sized (blocks s) blocks-at 1 q (block z k) P (W .sized) i in
+      let hi = in-high (blocks s) blocks-at 1 q (block z k) P i in
+      let al = in-aligned (blocks s) blocks-at 1 q (block z k) P (W .sized) refl i in
+      let fl = in-flag (blocks s) blocks-at 1 q (block z k) P (omega arith) i in
       reads q (headWord z k P) (omega arith) (omega arith) (omega (arith, W .fits, heldBit-le k)) (at-head s q z k P i (omega arith))
 
   pub end-big : 176 ≤ end s
@@ -49,16 +50,16 @@ module _ (bs : List ℕ) (s : State) (W : WellFormed s) (l : length bs ≡ end s
       let c : 8 * w < 96 = omega arith in let d : 8 * w % 8 ≡ 0 = omega arith in
       reads (8 * w) (headerWord s w) (omega arith) (omega (arith, end-big)) b (simp ifs (ap (λ (v : ℕ). some (headerWord s v)) (omega arith)))
 
-  pub start-of : (y q : ℕ) → 1 ≤ count q (s .bins y) → (168 ≤ q) × (q + y ≤ 65536) × (q % 8 ≡ 0) × (8 ≤ y) × (y % 8 ≡ 0) × (q + y ≤ end s)
+  pub start-of : (y q : ℕ) → 1 ≤ count q (s .bins y) → (blocks-at ≤ q) × (q + y ≤ 65536) × (q % 8 ≡ 0) × (8 ≤ y) × (y % 8 ≡ 0) × (q + y ≤ end s)
   start-of y q o =
       let f = loose s W .found y q o in
-      let sol = in-sized (blocks s) 168 1 q (block y free) (f .0) (W .sized) (f .1) in
+      let sol = in-sized (blocks s) blocks-at 1 q (block y free) (f .0) (W .sized) (f .1) in
       let st = start s (loose s W) y q o in
       (st .0, omega (arith, W .fits), st .2, sol .0, sol .1, st .1)
 
   -- the way on from q, as a number
   pub next-reads : (y q : ℕ) → 1 ≤ count q (s .bins y) → (v : ℕ) × (nextIn (s .bins y) q ≡ some v) × (v ≤ 65536) × (v ≢ q)
-      × (y < 72 → wordAt 4 bs (q + 4) ≡ v) × (72 ≤ y → wordAt 4 bs (q + 8) ≡ linkWord q v)
+      × (y < large → wordAt 4 bs (q + small-next-at) ≡ v) × (large ≤ y → wordAt 4 bs (q + next-at) ≡ linkWord q v)
   unfolding smallWord
   next-reads y q o =
       let m = next-mem q (s .bins y) o in
@@ -69,10 +70,10 @@ module _ (bs : List ℕ) (s : State) (W : WellFormed s) (l : length bs ≡ end s
         m .1,
         small,
         apart (m .0) (m .2) (st .0),
-        (λ y72. reads (q + 4) (m .0) (omega arith) (omega arith) (omega arith)
+        (λ y72. reads (q + small-next-at) (m .0) (omega arith) (omega arith) (omega arith)
             (at-block s q (block y free) (f .0) 4 (f .1) (omega arith) ∙ if=-no 4 0 _ _ (omega arith) ∙ if<-yes y 72 _ _ y72 ∙ if=-yes 4 4 _ _ refl
             ∙ m .1)),
-        (λ y72. reads (q + 8) (linkWord q (m .0)) (omega arith) (omega arith) (linkWord-small q (m .0))
+        (λ y72. reads (q + next-at) (linkWord q (m .0)) (omega arith) (omega arith) (linkWord-small q (m .0))
             (at-on s q y (f .0) (f .1) y72 ∙ ap (link q) (m .1))),
       )
     where
@@ -80,7 +81,7 @@ module _ (bs : List ℕ) (s : State) (W : WellFormed s) (l : length bs ≡ end s
       bound v (inl e) = omega arith
       bound v (inr k) = omega (arith, start-of y v (k .0))
 
-      apart : (v : ℕ) → (v ≡ 0) ⊎ ((1 ≤ count v (s .bins y)) × ((v ≡ q) → 2 ≤ count q (s .bins y))) → 168 ≤ q → v ≢ q
+      apart : (v : ℕ) → (v ≡ 0) ⊎ ((1 ≤ count v (s .bins y)) × ((v ≡ q) → 2 ≤ count q (s .bins y))) → blocks-at ≤ q → v ≢ q
       apart v (inl e) b = omega arith
       apart v (inr k) b = λ e. omega (arith, k .1 e, loose s W .once y q)
 
@@ -88,24 +89,25 @@ module _ (bs : List ℕ) (s : State) (W : WellFormed s) (l : length bs ≡ end s
   no-zero y = by= (count 0 (s .bins y)) 0 (λ e. e) (λ n. absurd (omega (arith, start-of y 0 (omega arith) .0)))
 
   -- of a large bin, the first is the one whose way back is 0
-  pub back-reads : (y q : ℕ) → 72 ≤ y → 1 ≤ count q (s .bins y) → first (s .bins y) ≡ q → wordAt 4 bs (q + 4) ≡ 0
+  pub back-reads : (y q : ℕ) → large ≤ y → 1 ≤ count q (s .bins y) → first (s .bins y) ≡ q → wordAt 4 bs (q + previous-at) ≡ 0
   unfolding linkWord
   back-reads y q y72 o e =
       let st = start-of y q o in
       let f = loose s W .found y q o in
-      reads (q + 4) 0 (omega arith) (omega arith) (omega arith)
+      reads (q + previous-at) 0 (omega arith) (omega arith) (omega arith)
       (at-back s q y (f .0) (f .1) y72
       ∙ ap (link q) (subst (λ (v : ℕ). prevIn 0 (s .bins y) v ≡ some 0) e (prev-of-first 0 (s .bins y) (omega (arith, st .0))))
       ∙ ap some (if=-yes 0 0 _ _ refl))
 
-  pub first-reads : (y q : ℕ) → 72 ≤ y → 1 ≤ count q (s .bins y) → wordAt 4 bs (q + 4) ≡ 0 → first (s .bins y) ≡ q
+  pub first-reads : (y q : ℕ) → large ≤ y → 1 ≤ count q (s .bins y) → wordAt 4 bs (q + previous-at) ≡ 0 → first (s .bins y) ≡ q
   unfolding linkWord
   first-reads y q y72 o e =
       let st = start-of y q o in
       let f = loose s W .found y q o in
       let m = prev-some 0 q (s .bins y) (omega (arith, st .0)) o in
       let b : m .0 ≤ 65536 = bound (m .0) (prev-mem 0 q (m .0) (s .bins y) (m .1)) in
-      let d : wordAt 4 bs (q + 4) ≡ linkWord q (m .0) = reads (q + 4) (linkWord q (m .0)) (omega arith) (omega arith) (linkWord-small q (m .0))
+      let d : wordAt 4 bs (q + previous-at) ≡ linkWord q (m .0) =
+      reads (q + previous-at) (linkWord q (m .0)) (omega arith) (omega arith) (linkWord-small q (m .0))
       (at-back s q y (f .0) (f .1) y72 ∙ ap (link q) (m .1)) in
       let z : m .0 ≡ 0 = linkWord-inj q (m .0) 0 (omega arith) b (omega arith) (m .2) (omega (arith, st .0))
       (sym d ∙ e ∙ sym (if=-yes 0 0 _ _ refl)) in
@@ -116,7 +118,7 @@ module _ (bs : List ℕ) (s : State) (W : WellFormed s) (l : length bs ≡ end s
       bound v (inr k) = omega (arith, start-of y v k)
 
   -- the first of a small bin stands in the header
-  pub small-reads : (y : ℕ) → 8 ≤ y → y ≤ 64 → y % 8 ≡ 0 → wordAt 4 bs (y + 24) ≡ first (s .bins y)
+  pub small-reads : (y : ℕ) → 8 ≤ y → y ≤ 64 → y % 8 ≡ 0 → wordAt 4 bs (y + small-bins) ≡ first (s .bins y)
   unfolding headerWord
   small-reads y a b c =
       let w : ℕ = y / 8 + 3 in
@@ -127,14 +129,14 @@ module _ (bs : List ℕ) (s : State) (W : WellFormed s) (l : length bs ≡ end s
       (λ k. omega (arith, start-of y (first (s .bins y)) (first-count (s .bins y) (first (s .bins y)) refl k))) in
       ap (wordAt 4 bs) (omega arith) ∙ header-reads (y / 8 + 3) (omega arith) (omega arith) ∙ e
 
-  pub low-reads : wordAt 4 bs 16 ≡ 168 + total (s .low)
+  pub low-reads : wordAt 4 bs start-at ≡ blocks-at + total (s .low)
   unfolding headerWord if=
   low-reads = header-reads 2 (omega arith) (omega (arith, W .fits, total-append (s .low) (block (s .rest) remainder ∷ s .high)))
 
-  pub rest-reads : wordAt 4 bs 24 ≡ 168 + total (s .low) + s .rest
+  pub rest-reads : wordAt 4 bs end-at ≡ blocks-at + total (s .low) + s .rest
   unfolding headerWord if=
   rest-reads = header-reads 3 (omega arith) (omega (arith, W .fits, total-append (s .low) (block (s .rest) remainder ∷ s .high)))
 
-  pub top-reads : wordAt 4 bs 108 ≡ s .top
+  pub top-reads : wordAt 4 bs (false-block + level-at) ≡ s .top
   unfolding sheet index if= if<
   top-reads = reads 108 (s .top) refl (omega (arith, end-big)) (omega (arith, loose s W .top13)) refl

@@ -14,6 +14,7 @@ use Rattle.paper.proofs.runs.Walk.{In, in-left, in-mid, sized-parts, to
 use Rattle.paper.specs.Bins.{count, first, nextIn}
 use Rattle.paper.specs.Blocks.{Block, Kind, State, block, blocks, end, free, held, remainder, size, total}
 use Rattle.paper.specs.Governed.{flagAbove, headWord, sheet}
+use Rattle.paper.specs.Layout.{blocks-at, large}
 use Rattle.paper.specs.Sheet.{Holds}
 use Rattle.paper.specs.Sound.{High, Low, Sized, WellFormed, freeAt}
 use Rattle.words.specs.Choice.{by<, by=}
@@ -76,14 +77,14 @@ module _ (bs : List ℕ) (s s' : State) (W : WellFormed s) (W' : WellFormed s') 
 
   same-low : s .low ≡ s' .low
   same-low =
-      same-list (wordAt 4 bs) (s .low) (s' .low) 168 1 (low-no-remainder (s .low) (W .low-ok)) (low-no-remainder (s' .low) (W' .low-ok))
+      same-list (wordAt 4 bs) (s .low) (s' .low) blocks-at 1 (low-no-remainder (s .low) (W .low-ok)) (low-no-remainder (s' .low) (W' .low-ok))
       (sized-parts (s .low) _ (W .sized) .0) (sized-parts (s' .low) _ (W' .sized) .0) same-total
-      (λ q z k P i. head-reads bs s W l h q z k P (in-left (s .low) _ 168 1 q (block z k) P i))
-      (λ q z k P i. head-reads bs s' W' l' h' q z k P (in-left (s' .low) _ 168 1 q (block z k) P i))
+      (λ q z k P i. head-reads bs s W l h q z k P (in-left (s .low) _ blocks-at 1 q (block z k) P i))
+      (λ q z k P i. head-reads bs s' W' l' h' q z k P (in-left (s' .low) _ blocks-at 1 q (block z k) P i))
 
   same-high : s .high ≡ s' .high
   same-high =
-      same-list (wordAt 4 bs) (s .high) (s' .high) (168 + total (s .low) + s .rest) 1 (high-no-remainder (s .high) (W .high-ok))
+      same-list (wordAt 4 bs) (s .high) (s' .high) (blocks-at + total (s .low) + s .rest) 1 (high-no-remainder (s .high) (W .high-ok))
       (high-no-remainder (s' .high) (W' .high-ok))
       (sized-parts (s .low) _ (W .sized) .1 .1) (sized-parts (s' .low) _ (W' .sized) .1 .1)
       (omega (
@@ -94,22 +95,22 @@ module _ (bs : List ℕ) (s s' : State) (W : WellFormed s) (W' : WellFormed s') 
         total-append (s' .low)
             (block (s' .rest) remainder ∷ s' .high),
       ))
-      (λ q z k P i. head-reads bs s W l h q z k P (in-mid (s .low) (block (s .rest) remainder ∷ s .high) 168 1 q (block z k) P (inr i)))
-      (λ q z k P i. head-reads bs s' W' l' h' q z k P (in-mid (s' .low) (block (s' .rest) remainder ∷ s' .high) 168 1 q (block z k) P
+      (λ q z k P i. head-reads bs s W l h q z k P (in-mid (s .low) (block (s .rest) remainder ∷ s .high) blocks-at 1 q (block z k) P (inr i)))
+      (λ q z k P i. head-reads bs s' W' l' h' q z k P (in-mid (s' .low) (block (s' .rest) remainder ∷ s' .high) blocks-at 1 q (block z k) P
       (inr (subst (λ (n : ℕ). In (s' .high) n 1 q (block z k) P) (omega (arith, same-total, same-rest)) i))))
 
   same-blocks : blocks s ≡ blocks s'
   same-blocks = λ i. same-low i ++ block (same-rest i) remainder ∷ same-high i
 
   same-count : (y q : ℕ) → count q (s .bins y) ≡ count q (s' .bins y)
-  same-count y q = W .listed y q ∙ ap (λ (b : List Block). freeAt b 168 y q) same-blocks ∙ sym (W' .listed y q)
+  same-count y q = W .listed y q ∙ ap (λ (b : List Block). freeAt b blocks-at y q) same-blocks ∙ sym (W' .listed y q)
 
   same-next : (y q : ℕ) → 1 ≤ count q (s .bins y) → nextIn (s .bins y) q ≡ nextIn (s' .bins y) q
   same-next y q o =
       let o' : 1 ≤ count q (s' .bins y) = omega (arith, same-count y q) in
       let r = next-reads bs s W l h y q o in let r' = next-reads bs s' W' l' h' y q o' in
       let v : r .0 ≡ r' .0 =
-      by< y 72 (λ c. sym (r .4 c) ∙ r' .4 c)
+      by< y large (λ c. sym (r .4 c) ∙ r' .4 c)
       (λ c. linkWord-inj q (r .0) (r' .0) (omega (arith, start-of bs s W l h y q o)) (r .2) (r' .2) (r .3) (r' .3) (sym (r .5 c) ∙ r' .5 c)) in
       r .1 ∙ ap some v ∙ sym (r' .1)
 
@@ -126,7 +127,7 @@ module _ (bs : List ℕ) (s s' : State) (W : WellFormed s) (W' : WellFormed s') 
       ))))
       (λ n. let o = first-count (s .bins y) (first (s .bins y)) refl n in
       let st = start-of bs s W l h y (first (s .bins y)) o in
-      by< y 72 (λ c. sym (small-reads bs s W l h y (st .3) (omega arith) (st .4)) ∙ small-reads bs s' W' l' h' y (st .3) (omega arith) (st .4))
+      by< y large (λ c. sym (small-reads bs s W l h y (st .3) (omega arith) (st .4)) ∙ small-reads bs s' W' l' h' y (st .3) (omega arith) (st .4))
       (λ c. sym (first-reads bs s' W' l' h' y (first (s .bins y)) c (omega (arith, same-count y (first (s .bins y))))
       (back-reads bs s W l h y (first (s .bins y)) c o refl))))
 

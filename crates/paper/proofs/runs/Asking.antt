@@ -14,6 +14,7 @@ use Rattle.paper.specs.Answers.{not-held}
 use Rattle.paper.specs.Blocks.{Block, State, block, blocks, end, held}
 use Rattle.paper.specs.declared.Answer.the-variants.{Done, Refused}
 use Rattle.paper.specs.GivingBack.{ask}
+use Rattle.paper.specs.Layout.{blocks-at}
 use Rattle.paper.specs.Runs.{heldSize, startsAt}
 use Rattle.paper.specs.Sound.{Sized, WellFormed}
 use Rattle.words.specs.Choice.{by=, if<-no}
@@ -24,11 +25,11 @@ starts-in f xs p P q b P' s i =
     ap (λ (l : List Block). startsAt f l p q) (r .2)
     ∙ starts-here f (r .0) b (r .1) p q (sized-parts (r .0) (b ∷ r .1) (subst Sized (r .2) s) .0) (r .3)
 
-pub heldAt-in : (s : State) (q z P : ℕ) → Sized (blocks s) → In (blocks s) 168 1 q (block z held) P → heldAt s (q + 4) ≡ z
+pub heldAt-in : (s : State) (q z P : ℕ) → Sized (blocks s) → In (blocks s) blocks-at 1 q (block z held) P → heldAt s (q + 4) ≡ z
 unfolding heldAt
 heldAt-in s q z P S i =
     let e : q + 4 - 4 ≡ q = omega arith in
-    if<-no (q + 4) 4 _ _ (omega arith) ∙ ap (startsAt heldSize (blocks s) 168) e ∙ starts-in heldSize (blocks s) 168 1 q (block z held) P S i
+    if<-no (q + 4) 4 _ _ (omega arith) ∙ ap (startsAt heldSize (blocks s) blocks-at) e ∙ starts-in heldSize (blocks s) blocks-at 1 q (block z held) P S i
 
 module _ (s : State) (W : WellFormed s) (offset : ℕ) where
   ask-none : heldAt s offset ≡ 0 → ask s offset ≡ Refused not-held

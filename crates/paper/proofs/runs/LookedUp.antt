@@ -13,6 +13,7 @@ use Rattle.paper.specs.Answers.{not-held}
 use Rattle.paper.specs.Blocks.{Block, Kind, State, block, blocks, free, held, remainder, size, total}
 use Rattle.paper.specs.declared.Found.{Found}
 use Rattle.paper.specs.Governed.{flagAbove}
+use Rattle.paper.specs.Layout.{blocks-at}
 use Rattle.paper.specs.LookingUp.{blockAt, byOffset, found, lookUp}
 use Rattle.paper.specs.Runs.{heldSize, startsAt}
 use Rattle.paper.specs.Sound.{Sized}
@@ -33,10 +34,10 @@ block-in (block y j ∷ xs) p P q z k P' a (inr h) l m =
     if<-no a (p + y) _ _ (omega (arith, in-low xs (p + y) (flagAbove (block y j)) q (block z k) P' h))
     ∙ block-in xs (p + y) (flagAbove (block y j)) q z k P' a h l m
 
-pub lookUp-in : (s : State) (q z : ℕ) (k : Kind) (P a : ℕ) → In (blocks s) 168 1 q (block z k) P → q ≤ a → a < q + z → lookUp s a ≡ found k q z
+pub lookUp-in : (s : State) (q z : ℕ) (k : Kind) (P a : ℕ) → In (blocks s) blocks-at 1 q (block z k) P → q ≤ a → a < q + z → lookUp s a ≡ found k q z
 unfolding lookUp
 lookUp-in s q z k P a h l m =
-    if<-no a 168 _ _ (omega (arith, in-low (blocks s) 168 1 q (block z k) P h)) ∙ block-in (blocks s) 168 1 q z k P a h l m
+    if<-no a 168 _ _ (omega (arith, in-low (blocks s) blocks-at 1 q (block z k) P h)) ∙ block-in (blocks s) blocks-at 1 q z k P a h l m
 
 -- ---- the held block of an offset
 
@@ -82,15 +83,15 @@ module _ {A : Type 0} (offset : ℕ) (f : ℕ → A) (g : ℕ → ℕ → A) whe
   pub by-held : (s : State) → Sized (blocks s) → byOffset (lookUp s offset) offset f g ≡ on (heldAt s offset)
   unfolding lookUp heldAt
   by-held s S =
-      by< offset 168
+      by< offset blocks-at
       (λ l. ap (λ (x : Found). byOffset x offset f g) (if<-yes offset 168 _ _ l) ∙ none _ (nothing l))
-      (λ l. ap (λ (x : Found). byOffset x offset f g) (if<-no offset 168 _ _ l) ∙ at-start (blocks s) 168 S (omega arith) l
+      (λ l. ap (λ (x : Found). byOffset x offset f g) (if<-no offset 168 _ _ l) ∙ at-start (blocks s) blocks-at S (omega arith) l
       ∙ ap on (sym (if<-no offset 4 _ _ (omega arith))))
     where
-      nothing : offset < 168 → if< offset 4 0 (startsAt heldSize (blocks s) 168 (offset - 4)) ≡ 0
+      nothing : offset < blocks-at → if< offset 4 0 (startsAt heldSize (blocks s) blocks-at (offset - 4)) ≡ 0
       nothing l =
           by< offset 4 (λ m. if<-yes offset 4 _ _ m)
-          (λ m. if<-no offset 4 _ _ m ∙ starts-below heldSize (blocks s) 168 (offset - 4) (omega arith))
+          (λ m. if<-no offset 4 _ _ m ∙ starts-below heldSize (blocks s) blocks-at (offset - 4) (omega arith))
 
   pub lookUp-none : (s : State) → Sized (blocks s) → heldAt s offset ≡ 0 → byOffset (lookUp s offset) offset f g ≡ f not-held
   lookUp-none s S e = by-held s S ∙ if=-yes (heldAt s offset) 0 _ _ e

@@ -2,6 +2,7 @@
 use mathlib.Core.List.{List, [], _++_, _∷_}
 use Prim.Native.Nat.{_≤_, ℕ}
 use Rattle.paper.specs.Blocks.{Block, block, free, held, remainder}
+use Rattle.paper.specs.Layout.{large}
 use Rattle.paper.specs.Sound.{High, Low}
 
 -- ---- the low run
@@ -31,18 +32,18 @@ low-above-free z (block y held ∷ vs) l = (l .1, l .2)
 low-above-free z (block y free ∷ vs) l = absurd l
 low-above-free z (block y remainder ∷ vs) l = absurd l
 
-pub low-resize-free : (z w : ℕ) (vs : List Block) → 72 ≤ w → Low (block z free ∷ vs) → Low (block w free ∷ vs)
+pub low-resize-free : (z w : ℕ) (vs : List Block) → large ≤ w → Low (block z free ∷ vs) → Low (block w free ∷ vs)
 low-resize-free z w [] h l = absurd l
 low-resize-free z w (block y held ∷ vs) h l = (h, l .1, l .2)
 low-resize-free z w (block y free ∷ vs) h l = absurd l
 low-resize-free z w (block y remainder ∷ vs) h l = absurd l
 
 -- a free block is held, whole or its low part
-pub low-hold : (us : List Block) (z b : ℕ) (vs : List Block) → 72 ≤ b → Low (us ++ block z free ∷ vs) → Low (us ++ block b held ∷ vs)
+pub low-hold : (us : List Block) (z b : ℕ) (vs : List Block) → large ≤ b → Low (us ++ block z free ∷ vs) → Low (us ++ block b held ∷ vs)
 low-hold us z b vs h l =
     let r = low-parts-at-free us z vs l in low-append us (block b held ∷ vs) (r .0) (h, low-above-free z vs (r .1))
 
-pub low-cut : (us : List Block) (z b w : ℕ) (vs : List Block) → 72 ≤ b → 72 ≤ w → Low (us ++ block z free ∷ vs)
+pub low-cut : (us : List Block) (z b w : ℕ) (vs : List Block) → large ≤ b → large ≤ w → Low (us ++ block z free ∷ vs)
     → Low (us ++ block b held ∷ block w free ∷ vs)
 low-cut us z b w vs h k l =
     let r = low-parts-at-free us z vs l in low-append us (block b held ∷ block w free ∷ vs) (r .0) (h, low-resize-free z w vs k (r .1))

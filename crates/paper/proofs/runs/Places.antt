@@ -12,10 +12,11 @@ use Rattle.paper.specs.Bins.{count, first, used}
 use Rattle.paper.specs.Blocks.{Block, Kind, State, block, blocks, free, held, remainder, size}
 use Rattle.paper.specs.Governed.{flagAbove}
 use Rattle.paper.specs.Granting.{E, R}
+use Rattle.paper.specs.Layout.{blocks-at, large}
 use Rattle.paper.specs.Sound.{High, Low, WellFormed}
 
 -- ---- the low run has large blocks only, the high run small ones only
-pub low-large : (xs : List Block) (p P q z : ℕ) (k : Kind) (P' : ℕ) → Low xs → In xs p P q (block z k) P' → 72 ≤ z
+pub low-large : (xs : List Block) (p P q z : ℕ) (k : Kind) (P' : ℕ) → Low xs → In xs p P q (block z k) P' → large ≤ z
 low-large [] p P q z k P' l h = absurd h
 low-large (block y held ∷ xs) p P q z k P' l (inl h) = omega (arith, ap size (h .1), l .0)
 low-large (block y held ∷ xs) p P q z k P' l (inr h) = low-large xs (p + y) 1 q z k P' (l .1) h
@@ -40,36 +41,36 @@ free-is-no-remainder z y e = let n : _≡_ {A = ℕ} 0 1 = cc in omega arith
 
 module _ (s : State) (W : WellFormed s) where
   -- a free block is in the low run if it is large, in the high run if it is small
-  pub free-in-low : (z q P : ℕ) → 72 ≤ z → In (blocks s) 168 1 q (block z free) P → In (s .low) 168 1 q (block z free) P
-  free-in-low z q P l h = go (in-split (s .low) (block (s .rest) remainder ∷ s .high) 168 1 q (block z free) P h)
+  pub free-in-low : (z q P : ℕ) → large ≤ z → In (blocks s) blocks-at 1 q (block z free) P → In (s .low) blocks-at 1 q (block z free) P
+  free-in-low z q P l h = go (in-split (s .low) (block (s .rest) remainder ∷ s .high) blocks-at 1 q (block z free) P h)
     where
-      go : In (s .low) 168 1 q (block z free) P ⊎ In (block (s .rest) remainder ∷ s .high) (R s) (flagPast 1 (s .low)) q (block z free) P
-          → In (s .low) 168 1 q (block z free) P
+      go : In (s .low) blocks-at 1 q (block z free) P ⊎ In (block (s .rest) remainder ∷ s .high) (R s) (flagPast 1 (s .low)) q (block z free) P
+          → In (s .low) blocks-at 1 q (block z free) P
       go (inl i) = i
       go (inr (inl i)) = absurd (free-is-no-remainder z (s .rest) (i .1))
       go (inr (inr i)) = absurd (omega (arith, high-small (s .high) (E s) 1 q z free P (W .high-ok) i))
 
-  pub free-in-high : (z q P : ℕ) → z < 72 → In (blocks s) 168 1 q (block z free) P → In (s .high) (E s) 1 q (block z free) P
-  free-in-high z q P l h = go (in-split (s .low) (block (s .rest) remainder ∷ s .high) 168 1 q (block z free) P h)
+  pub free-in-high : (z q P : ℕ) → z < large → In (blocks s) blocks-at 1 q (block z free) P → In (s .high) (E s) 1 q (block z free) P
+  free-in-high z q P l h = go (in-split (s .low) (block (s .rest) remainder ∷ s .high) blocks-at 1 q (block z free) P h)
     where
-      go : In (s .low) 168 1 q (block z free) P ⊎ In (block (s .rest) remainder ∷ s .high) (R s) (flagPast 1 (s .low)) q (block z free) P
+      go : In (s .low) blocks-at 1 q (block z free) P ⊎ In (block (s .rest) remainder ∷ s .high) (R s) (flagPast 1 (s .low)) q (block z free) P
           → In (s .high) (E s) 1 q (block z free) P
-      go (inl i) = absurd (omega (arith, low-large (s .low) 168 1 q z free P (W .low-ok) i))
+      go (inl i) = absurd (omega (arith, low-large (s .low) blocks-at 1 q z free P (W .low-ok) i))
       go (inr (inl i)) = absurd (free-is-no-remainder z (s .rest) (i .1))
       go (inr (inr i)) = i
 
   -- and so is a listed one
-  pub listed-in-low : (z q : ℕ) → 72 ≤ z → 1 ≤ count q (s .bins z) → (P : ℕ) × In (s .low) 168 1 q (block z free) P
+  pub listed-in-low : (z q : ℕ) → large ≤ z → 1 ≤ count q (s .bins z) → (P : ℕ) × In (s .low) blocks-at 1 q (block z free) P
   listed-in-low z q l h = let f = loose s W .found z q h in (f .0, free-in-low z q (f .0) l (f .1))
 
-  pub listed-in-high : (z q : ℕ) → z < 72 → 1 ≤ count q (s .bins z) → (P : ℕ) × In (s .high) (E s) 1 q (block z free) P
+  pub listed-in-high : (z q : ℕ) → z < large → 1 ≤ count q (s .bins z) → (P : ℕ) × In (s .high) (E s) 1 q (block z free) P
   listed-in-high z q l h = let f = loose s W .found z q h in (f .0, free-in-high z q (f .0) l (f .1))
 
   -- the block that a large bin says to use, and the first of a small bin
-  pub used-in-low : (z : ℕ) → 72 ≤ z → first (s .bins z) ≢ 0 → (P : ℕ) × In (s .low) 168 1 (used (s .bins z)) (block z free) P
+  pub used-in-low : (z : ℕ) → large ≤ z → first (s .bins z) ≢ 0 → (P : ℕ) × In (s .low) blocks-at 1 (used (s .bins z)) (block z free) P
   used-in-low z l n = listed-in-low z (used (s .bins z)) l (used-counts-where-first (s .bins z) n)
 
-  pub first-in-high : (z : ℕ) → z < 72 → first (s .bins z) ≢ 0 → (P : ℕ) × In (s .high) (E s) 1 (first (s .bins z)) (block z free) P
+  pub first-in-high : (z : ℕ) → z < large → first (s .bins z) ≢ 0 → (P : ℕ) × In (s .high) (E s) 1 (first (s .bins z)) (block z free) P
   first-in-high z l n = listed-in-high z (first (s .bins z)) l (first-count (s .bins z) (first (s .bins z)) refl n)
 
 -- ---- two blocks of a run are one, or apart

@@ -7,6 +7,7 @@ use Prim.Native.Nat.{_%_, _+_, _-_, _<_, _≤_, ℕ}
 use native.Mathlib.Omega.{arith}
 use Rattle.paper.specs.Blocks.{Block, block, free, freeSum, held, remainder, size, total}
 use Rattle.paper.specs.Governed.{flagAbove, walk}
+use Rattle.paper.specs.Layout.{large}
 use Rattle.paper.specs.Sound.{Sized}
 use Rattle.words.specs.Choice.{by<, ifs}
 
@@ -87,7 +88,7 @@ in-mid (c ∷ xs) ys p P q b P' h = inr
 pub flagAbove-le : (b : Block) → flagAbove b ≤ 1
 flagAbove-le (block z held) = omega arith
 flagAbove-le (block z remainder) = omega arith
-flagAbove-le (block z free) = by< z 72 (λ l. simp ifs (omega arith)) (λ l. simp ifs (omega arith))
+flagAbove-le (block z free) = by< z large (λ l. simp ifs (omega arith)) (λ l. simp ifs (omega arith))
 
 pub in-flag : (xs : List Block) (p P q : ℕ) (b : Block) (P' : ℕ) → P ≤ 1 → In xs p P q b P' → P' ≤ 1
 in-flag [] p P q b P' l h = absurd h

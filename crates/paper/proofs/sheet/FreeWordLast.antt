@@ -12,6 +12,7 @@ use Rattle.paper.proofs.runs.Walk.{freeSum-le}
 use Rattle.paper.proofs.sheet.Written.{holds-word}
 use Rattle.paper.specs.Blocks.{State, blocks, end, freeSum}
 use Rattle.paper.specs.Governed.{headerWord, sheet}
+use Rattle.paper.specs.Layout.{free-word-at}
 use Rattle.paper.specs.Sheet.{Holds, Sheet}
 use Rattle.words.proofs.Laws.{getD-put, put-comm, word-apart}
 use Rattle.words.specs.Choice.{by<, if<, if=}
@@ -26,11 +27,11 @@ abbrev pub Past : List (ℕ × ℕ) → Type 0
 Past [] = Unit {0}
 Past (p ∷ ps) = (4 ≤ p .0) × Past ps
 
-pub past-word : (ps : List (ℕ × ℕ)) (bs : List ℕ) → Past ps → wordAt 4 (puts ps bs) 0 ≡ wordAt 4 bs 0
+pub past-word : (ps : List (ℕ × ℕ)) (bs : List ℕ) → Past ps → wordAt 4 (puts ps bs) free-word-at ≡ wordAt 4 bs free-word-at
 past-word [] bs h = refl
 past-word (p ∷ ps) bs h = past-word ps (putAt 4 bs (p .0) (p .1)) (h .1) ∙ word-apart 4 bs 0 4 (p .0) (p .1) (inl (h .0))
 
-pub past-put : (ps : List (ℕ × ℕ)) (bs : List ℕ) (v : ℕ) → Past ps → putAt 4 (puts ps bs) 0 v ≡ puts ps (putAt 4 bs 0 v)
+pub past-put : (ps : List (ℕ × ℕ)) (bs : List ℕ) (v : ℕ) → Past ps → putAt 4 (puts ps bs) free-word-at v ≡ puts ps (putAt 4 bs free-word-at v)
 past-put [] bs v h = refl
 past-put (p ∷ ps) bs v h =
     past-put ps (putAt 4 bs (p .0) (p .1)) v (h .1) ∙ ap (puts ps) (put-comm 4 bs 0 v 4 (p .0) (p .1) (inl (h .0)))
@@ -50,7 +51,7 @@ good-keeps g n (p ∷ ps) bs h i e =
     apart k = some-not-none (g (p .0)) (p .1) (h .0 .2) (ap g (sym k) ∙ e)
 
 -- the free word of bytes that hold a state's sheet, between two steps too
-pub free-word-reads : (bs : List ℕ) (s : State) → end s ≤ 65536 → length bs ≡ end s → Holds (sheet s) bs → wordAt 4 bs 0 ≡ freeSum (blocks s) - 4
+pub free-word-reads : (bs : List ℕ) (s : State) → end s ≤ 65536 → length bs ≡ end s → Holds (sheet s) bs → wordAt 4 bs free-word-at ≡ freeSum (blocks s) - 4
 unfolding sheet headerWord if< if=
 free-word-reads bs s fits l h =
     holds-word (sheet s) bs 0 (freeSum (blocks s) - 4) h refl (omega arith) (omega (arith, freeSum-le (blocks s))) refl

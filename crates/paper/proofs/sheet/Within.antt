@@ -11,6 +11,7 @@ use Rattle.paper.proofs.bins.Bins.{next-absent, next-mem, prev-absent, 
 use Rattle.paper.specs.Bins.{count, first, nextIn, prevIn}
 use Rattle.paper.specs.Blocks.{Block, Kind, State, block, blocks, end, free, held, remainder, size}
 use Rattle.paper.specs.Governed.{above, blockWord, flagAbove, headWord, headerWord, height, index, largeWord, link, sheet, smallWord, walk}
+use Rattle.paper.specs.Layout.{blocks-at, chain-at, false-block, large, level-at, next-at, previous-at, small-next-at}
 use Rattle.paper.specs.Sheet.{Sheet}
 use Rattle.words.specs.Choice.{by<, by=, if<-no, if=-no, if=-yes, ifs}
 
@@ -23,31 +24,31 @@ governed-is-some v e = let z : _≡_ {A = ℕ} 0 1 = cc in omega arith
 
 -- ---- header and false block
 
-header-governed : (s : State) (a : ℕ) → a < 168 → sheet s a ≡ none → ⊥
+header-governed : (s : State) (a : ℕ) → a < blocks-at → sheet s a ≡ none → ⊥
 unfolding sheet index
 header-governed s a l h =
-    by< a 96
+    by< a false-block
     (λ m. by= (a % 8) 0
     (λ e. governed-is-some (headerWord s (a / 8)) (simp ifs at h))
     (λ e. governed-is-some 0 (simp ifs at h)))
-    (λ m. by= (a - 96) 12
+    (λ m. by= (a - false-block) level-at
     (λ e. governed-is-some (s .top) (simp ifs at h))
-    (λ e. by< (a - 96) (64 + 4 - 4 * s .top)
+    (λ e. by< (a - false-block) (chain-at + 4 - 4 * s .top)
     (λ k. governed-is-some 0 (simp ifs at h))
-    (λ k. by< 64 (a - 96)
+    (λ k. by< chain-at (a - false-block)
     (λ j. governed-is-some 0 (simp ifs at h))
-    (λ j. governed-is-some (linkWord 96 (above (s .top) (end s) (s .bins) ((64 + 4 - (a - 96)) / 4) 64)) (simp ifs at h)))))
+    (λ j. governed-is-some (linkWord false-block (above (s .top) (end s) (s .bins) ((chain-at + 4 - (a - false-block)) / 4) 64)) (simp ifs at h)))))
 
-sheet-walk : (s : State) (a : ℕ) → 168 ≤ a → sheet s a ≡ walk (blockWord (s .top) (end s) (s .bins)) (blocks s) 168 1 a
+sheet-walk : (s : State) (a : ℕ) → blocks-at ≤ a → sheet s a ≡ walk (blockWord (s .top) (end s) (s .bins)) (blocks s) blocks-at 1 a
 unfolding sheet
 sheet-walk s a l = if<-no a 96 _ _ (omega arith) ∙ if<-no a 168 _ _ l
 
 pub within-by-walk : (s s' : State)
-    → ((a : ℕ) → 168 ≤ a → walk (blockWord (s .top) (end s) (s .bins)) (blocks s) 168 1 a ≡ none
-    → walk (blockWord (s' .top) (end s') (s' .bins)) (blocks s') 168 1 a ≡ none)
+    → ((a : ℕ) → blocks-at ≤ a → walk (blockWord (s .top) (end s) (s .bins)) (blocks s) blocks-at 1 a ≡ none
+    → walk (blockWord (s' .top) (end s') (s' .bins)) (blocks s') blocks-at 1 a ≡ none)
     → Within (sheet s') (sheet s)
 within-by-walk s s' k a h =
-    by< a 168 (λ l. absurd (header-governed s a l h)) (λ l. sheet-walk s' a l ∙ k a l (sym (sheet-walk s a l) ∙ h))
+    by< a blocks-at (λ l. absurd (header-governed s a l h)) (λ l. sheet-walk s' a l ∙ k a l (sym (sheet-walk s a l) ∙ h))
 
 -- ---- one block, of fewer listed ones
 
@@ -66,14 +67,14 @@ unlisted-prev xs q z h =
 index-within : (t n n' : ℕ) (bins bins' : ℕ → List ℕ) (h p y o : ℕ) → index t n bins none h p y o ≡ none → index t n' bins' none h p y o ≡ none
 unfolding index
 index-within t n n' bins bins' h p y o e =
-    by= o 12 (λ a. absurd (governed-is-some h (simp ifs at e)))
-    (λ a. by< o (64 + 4 - 4 * h) (λ b. simp ifs)
-    (λ b. by< 64 o (λ c. simp ifs)
-    (λ c. absurd (governed-is-some (linkWord p (above t n bins ((64 + 4 - o) / 4) y)) (simp ifs at e)))))
+    by= o level-at (λ a. absurd (governed-is-some h (simp ifs at e)))
+    (λ a. by< o (chain-at + 4 - 4 * h) (λ b. simp ifs)
+    (λ b. by< chain-at o (λ c. simp ifs)
+    (λ c. absurd (governed-is-some (linkWord p (above t n bins ((chain-at + 4 - o) / 4) y)) (simp ifs at e)))))
 
 -- the same, or nothing is first
 abbrev pub FirstOf : (ℕ → List ℕ) → (ℕ → List ℕ) → Type 0
-FirstOf bins' bins = (y q : ℕ) → 72 ≤ y → q ≢ 0 → first (bins' y) ≡ q → first (bins y) ≡ q
+FirstOf bins' bins = (y q : ℕ) → large ≤ y → q ≢ 0 → first (bins' y) ≡ q → first (bins y) ≡ q
 
 abbrev pub CountOf : (ℕ → List ℕ) → (ℕ → List ℕ) → Type 0
 CountOf bins' bins = (y q : ℕ) → count q (bins' y) ≤ count q (bins y)
@@ -82,20 +83,20 @@ module _ (t n n' : ℕ) (bins bins' : ℕ → List ℕ) (fewer : CountOf bins' b
   small-within : (q z o : ℕ) → smallWord t n bins q z o ≡ none → smallWord t n' bins' q z o ≡ none
   unfolding smallWord
   small-within q z o h =
-      by= o 4
+      by= o small-next-at
       (λ e. let h' : nextIn (bins z) q ≡ none = simp ifs at h in
       simp ifs (next-absent (bins' z) q (omega (arith, fewer z q, unlisted-next (bins z) q h'))))
       (λ e. simp ifs)
 
-  large-within : (q z P P' o : ℕ) → q ≢ 0 → 72 ≤ z → largeWord t n bins q z P o ≡ none → largeWord t n' bins' q z P' o ≡ none
+  large-within : (q z P P' o : ℕ) → q ≢ 0 → large ≤ z → largeWord t n bins q z P o ≡ none → largeWord t n' bins' q z P' o ≡ none
   unfolding largeWord
   large-within q z P P' o nz l h =
-      by= o 4
+      by= o previous-at
       (λ e. let h' : link q (prevIn 0 (bins z) q) ≡ none = simp ifs at h in
       let c : prevIn 0 (bins' z) q ≡ none =
       prev-absent 0 (bins' z) q (omega (arith, fewer z q, unlisted-prev (bins z) q nz (link-none q (prevIn 0 (bins z) q) h'))) in
       simp ifs (ap (link q) c))
-      (λ e. by= o 8
+      (λ e. by= o next-at
       (λ f. let h' : link q (nextIn (bins z) q) ≡ none = simp ifs at h in
       let c : nextIn (bins' z) q ≡ none =
       next-absent (bins' z) q (omega (arith, fewer z q, unlisted-next (bins z) q (link-none q (nextIn (bins z) q) h'))) in
@@ -115,7 +116,7 @@ module _ (t n n' : ℕ) (bins bins' : ℕ → List ℕ) (fewer : CountOf bins' b
       by= o 0 (λ e. absurd (governed-is-some (headWord z remainder P) (simp ifs at h))) (λ e. if=-no o 0 _ _ e)
   block-within q (block z free) P P' o nz h =
       by= o 0 (λ e. absurd (governed-is-some (headWord z free P) (simp ifs at h)))
-      (λ e. by< z 72
+      (λ e. by< z large
       (λ l. let h' : smallWord t n bins q z o ≡ none = simp ifs at h in simp ifs (small-within q z o h'))
       (λ l. let h' : largeWord t n bins q z P o ≡ none = simp ifs at h in simp ifs (large-within q z P P' o nz l h')))
 
@@ -126,7 +127,7 @@ module _ (t n n' : ℕ) (bins bins' : ℕ → List ℕ) (fewer : CountOf bins' b
 
   -- ---- the walk
 
-  walk-within : (xs : List Block) (p P P' a : ℕ) → 168 ≤ p → walk (blockWord t n bins) xs p P a ≡ none → walk (blockWord t n' bins') xs p P' a ≡ none
+  walk-within : (xs : List Block) (p P P' a : ℕ) → blocks-at ≤ p → walk (blockWord t n bins) xs p P a ≡ none → walk (blockWord t n' bins') xs p P' a ≡ none
   unfolding walk
   walk-within [] p P P' a l h = refl
   walk-within (b ∷ xs) p P P' a l h =
@@ -136,7 +137,7 @@ module _ (t n n' : ℕ) (bins bins' : ℕ → List ℕ) (fewer : CountOf bins' b
       simp ifs (walk-within xs (p + size b) (flagAbove b) (flagAbove b) a (omega arith) h'))
 
   -- one block is held instead
-  pub walk-within-held : (us : List Block) (z : ℕ) (k : Kind) (vs : List Block) (p P P' a : ℕ) → 168 ≤ p
+  pub walk-within-held : (us : List Block) (z : ℕ) (k : Kind) (vs : List Block) (p P P' a : ℕ) → blocks-at ≤ p
       → walk (blockWord t n bins) (us ++ block z k ∷ vs) p P a ≡ none → walk (blockWord t n' bins') (us ++ block z held ∷ vs) p P' a ≡ none
   unfolding walk
   walk-within-held [] z k vs p P P' a l h =
@@ -151,7 +152,7 @@ module _ (t n n' : ℕ) (bins bins' : ℕ → List ℕ) (fewer : CountOf bins' b
       simp ifs (walk-within-held us z k vs (p + size b) (flagAbove b) (flagAbove b) a (omega arith) h'))
 
   -- two blocks are one remainder instead
-  pub walk-within-joined : (us : List Block) (z : ℕ) (k : Kind) (y : ℕ) (j : Kind) (vs : List Block) (p P P' a : ℕ) → 168 ≤ p → p ≤ a → 1 ≤ z
+  pub walk-within-joined : (us : List Block) (z : ℕ) (k : Kind) (y : ℕ) (j : Kind) (vs : List Block) (p P P' a : ℕ) → blocks-at ≤ p → p ≤ a → 1 ≤ z
       → walk (blockWord t n bins) (us ++ block z k ∷ block y j ∷ vs) p P a ≡ none
       → walk (blockWord t n' bins') (us ++ block (z + y) remainder ∷ vs) p P' a ≡ none
   unfolding walk

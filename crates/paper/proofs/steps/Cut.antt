@@ -13,6 +13,7 @@ use Rattle.paper.proofs.sheet.Stores.{Elsewhere, Good, finish, puts}
 use Rattle.paper.proofs.runs.Walk.{In, flagPast, freeSum-append, in-mid, total-append}
 use Rattle.paper.specs.Blocks.{State, block, blocks, end, freeSum, held, remainder, total}
 use Rattle.paper.specs.Governed.{headWord, headerWord, sheet, walk}
+use Rattle.paper.specs.Layout.{blocks-at, end-at, free-word-at}
 use Rattle.paper.specs.Sheet.{Holds, write}
 use Rattle.words.specs.Choice.{by<, if<, if=, ifs}
 
@@ -21,10 +22,10 @@ module _ (s : State) (b : ℕ) (b8 : 8 ≤ b) (room : b + 8 ≤ s .rest) where
   cut = record { top = s .top; low = s .low; rest = s .rest - b; high = block b held ∷ s .high; bins = s .bins }
 
   abbrev low-end : ℕ
-  low-end = 168 + total (s .low)
+  low-end = blocks-at + total (s .low)
 
   unfoldable pub cut-puts : List (ℕ × ℕ)
-  cut-puts = (0, freeSum (blocks s) - b - 4) ∷ (24, low-end + s .rest - b) ∷ (low-end, headWord (s .rest - b) remainder (flagPast 1 (s .low))) ∷
+  cut-puts = (free-word-at, freeSum (blocks s) - b - 4) ∷ (end-at, low-end + s .rest - b) ∷ (low-end, headWord (s .rest - b) remainder (flagPast 1 (s .low))) ∷
       (low-end + (s .rest - b), headWord b held 1) ∷ []
 
   total-same : total (blocks cut) ≡ total (blocks s)
@@ -43,7 +44,7 @@ module _ (s : State) (b : ℕ) (b8 : 8 ≤ b) (room : b + 8 ≤ s .rest) where
   unfolding cut-puts walk
   cut-frame a al out =
       seg-frame s cut (s .low) (block (s .rest) remainder ∷ []) (block (s .rest - b) remainder ∷ block b held ∷ []) (s .high) a refl refl refl refl
-      (ap (λ (k : ℕ). 168 + k) total-same) (omega arith)
+      (ap (λ (k : ℕ). blocks-at + k) total-same) (omega arith)
       (λ l z. header-same (a / 8) (omega arith) (omega arith))
       (λ n l. after-same _ (s .high) _ 1 1 a refl)
       (λ n l m. inl (by< a (low-end + (s .rest - b))
@@ -76,15 +77,15 @@ module _ (s : State) (b : ℕ) (b8 : 8 ≤ b) (room : b + 8 ≤ s .rest) where
       tot : total (blocks cut) ≡ total (s .low) + (s .rest - b + (b + total (s .high)))
       tot = total-append (s .low) (block (s .rest - b) remainder ∷ block b held ∷ s .high)
 
-      at : In (blocks cut) 168 1 low-end (block (s .rest - b) remainder) (flagPast 1 (s .low))
-      at = in-mid (s .low) (block (s .rest - b) remainder ∷ block b held ∷ s .high) 168 1 low-end _ _ (inl (refl, refl, refl))
+      at : In (blocks cut) blocks-at 1 low-end (block (s .rest - b) remainder) (flagPast 1 (s .low))
+      at = in-mid (s .low) (block (s .rest - b) remainder ∷ block b held ∷ s .high) blocks-at 1 low-end _ _ (inl (refl, refl, refl))
 
-      next : In (blocks cut) 168 1 (low-end + (s .rest - b)) (block b held) 1
-      next = in-mid (s .low) (block (s .rest - b) remainder ∷ block b held ∷ s .high) 168 1 (low-end + (s .rest - b)) _ _ (inr (inl (refl, refl, refl)))
+      next : In (blocks cut) blocks-at 1 (low-end + (s .rest - b)) (block b held) 1
+      next = in-mid (s .low) (block (s .rest - b) remainder ∷ block b held ∷ s .high) blocks-at 1 (low-end + (s .rest - b)) _ _ (inr (inl (refl, refl, refl)))
 
   pub take-cut : low-end % 4 ≡ 0 → s .rest % 4 ≡ 0 → b % 4 ≡ 0 → (bs : List ℕ) → length bs ≡ end s → Holds (sheet s) bs
       → puts cut-puts bs ≡ write (sheet cut) bs
   take-cut p8 r8 c8 bs l h =
       finish (sheet s) (sheet cut) bs cut-puts h
-      (subst (λ (n : ℕ). Good (sheet cut) n cut-puts) (ap (λ (k : ℕ). 168 + k) total-same ∙ sym l) (cut-good p8 r8 c8))
+      (subst (λ (n : ℕ). Good (sheet cut) n cut-puts) (ap (λ (k : ℕ). blocks-at + k) total-same ∙ sym l) (cut-good p8 r8 c8))
       (λ a al _ o. cut-frame a al o)

@@ -7,15 +7,16 @@ use Prim.Native.Nat.{_%_, _+_, _-_, _≤_, ℕ}
 use native.Mathlib.Omega.{arith}
 use Rattle.heads.specs.Links.{linkWord}
 use Rattle.paper.proofs.bins.Bins.{count-append, count-here, last-count, lastOr, next-last, next-p, prev-p}
-use Rattle.paper.proofs.sheet.Fields.{at-back, at-on, height-le}
+use Rattle.paper.proofs.sheet.Fields.{at-back, at-on}
 use Rattle.paper.proofs.steps.Leave.{NothingNew, frame, index-same}
-use Rattle.paper.proofs.steps.Leaving.{back-puts, later-above, later-bins, later-firsts, leaves, rebinned}
+use Rattle.paper.proofs.steps.Leaving.{back-puts, height-top, later-above, later-bins, later-firsts, leaves, rebinned}
 use Rattle.paper.proofs.bins.Listed.{Loose, rebin-other, rebin-same, start}
 use Rattle.paper.proofs.sheet.Stores.{Elsewhere, Good}
 use Rattle.paper.proofs.runs.Walk.{in-aligned}
 use Rattle.paper.specs.Bins.{count, first, nextIn, prevIn, rebin}
 use Rattle.paper.specs.Blocks.{State, block, blocks, end, free}
 use Rattle.paper.specs.Governed.{height, link, sheet}
+use Rattle.paper.specs.Layout.{blocks-at, large, next-at, previous-at}
 use Rattle.words.specs.Choice.{by=, if=}
 
 last-snoc : (r p : ℕ) (us : List ℕ) → lastOr r (us ++ p ∷ []) ≡ p
@@ -25,28 +26,28 @@ last-snoc r p (x ∷ us) = last-snoc x p us
 
 unfoldable pub enter-puts : ℕ → List ℕ → ℕ → List ℕ → List (ℕ × ℕ)
 enter-puts u us p vs =
-    (lastOr u us + 8, linkWord (lastOr u us) p) ∷ (p + 4, linkWord p (lastOr u us)) ∷ (p + 8, linkWord p (first vs)) ∷ back-puts p vs
+    (lastOr u us + next-at, linkWord (lastOr u us) p) ∷ (p + previous-at, linkWord p (lastOr u us)) ∷ (p + next-at, linkWord p (first vs)) ∷ back-puts p vs
 
-module _ (s : State) (W : Loose s) (z p u : ℕ) (us vs : List ℕ) (is-in : s .bins z ≡ u ∷ us ++ p ∷ vs) (large : 72 ≤ z) where
+module _ (s : State) (W : Loose s) (z p u : ℕ) (us vs : List ℕ) (is-in : s .bins z ≡ u ∷ us ++ p ∷ vs) (is-large : large ≤ z) where
   pub enter-frame : (a : ℕ) → a % 4 ≡ 0 → Elsewhere a (enter-puts u us p vs) → NothingNew (sheet s a) (sheet (rebinned s z (u ∷ us ++ vs)) a)
   unfolding enter-puts lastOr back-puts first later-bins
   enter-frame a al out =
-      frame s (rebin (s .bins) z (u ∷ us ++ vs)) z p (u ∷ us) vs (leaves s W z p (u ∷ us) vs is-in large) (λ x y. NothingNew y x) (λ x y e. inr (sym e)) a al
+      frame s (rebin (s .bins) z (u ∷ us ++ vs)) z p (u ∷ us) vs (leaves s W z p (u ∷ us) vs is-in is-large) (λ x y. NothingNew y x) (λ x y e. inr (sym e)) a al
       (λ e. absurd (out .1 .0 e)) (λ e. absurd (out .1 .1 .0 e))
       (λ l. back vs (out .1 .1 .1) l) (λ l. out .0)
-      (λ j _ _ _. later-above s z u us vs W p is-in large j 64)
-      (λ q y P h y72 qa ab. inr (sym (rw (later-firsts s z u us vs W p is-in large y) (ap (λ (o : Option ℕ). if= (first (s .bins y)) q o none)
+      (λ j _ _ _. later-above s z u us vs W p is-in is-large j 64)
+      (λ q y P h y72 qa ab. inr (sym (rw (later-firsts s z u us vs W p is-in is-large y) (ap (λ (o : Option ℕ). if= (first (s .bins y)) q o none)
       (index-same (s .top) (end s) (s .bins) (rebin (s .bins) z (u ∷ us ++ vs)) none (height (s .top) y) q y (a - q)
-      (omega (arith, in-aligned (blocks s) 168 1 q (block y free) P (W .sized) refl h)) (omega (arith, height-le (s .top) y, W .top13))
-      (λ j _ _ _. later-above s z u us vs W p is-in large j y))))))
+      (omega (arith, in-aligned (blocks s) blocks-at 1 q (block y free) P (W .sized) refl h)) (height-top s W y)
+      (λ j _ _ _. later-above s z u us vs W p is-in is-large j y))))))
     where
-      back : (vs : List ℕ) → Elsewhere a (back-puts p vs) → 168 ≤ a → a ≢ first vs + 4
+      back : (vs : List ℕ) → Elsewhere a (back-puts p vs) → blocks-at ≤ a → a ≢ first vs + previous-at
       back [] o l = omega arith
       back (nx ∷ vs') o l = o .0
 
   pub enter-good : Good (sheet s) (end s) (enter-puts u us p vs)
   unfolding enter-puts back-puts lastOr first
-  enter-good = (on, (own4, (own8, rest vs refl)))
+  enter-good = (on, (own-back, (own-on, rest vs refl)))
     where
       r : ℕ
       r = lastOr u us
@@ -63,30 +64,30 @@ module _ (s : State) (W : Loose s) (z p u : ℕ) (us vs : List ℕ) (is-in : s .
       p-us : count p (u ∷ us) ≡ 0
       p-us = omega (arith, W .once z p, bz p, count-here p vs)
 
-      on : (r + 8) % 4 ≡ 0 × (r + 8 + 4 ≤ end s) × (sheet s (r + 8) ≡ some (linkWord r p))
+      on : (r + next-at) % 4 ≡ 0 × (r + next-at + 4 ≤ end s) × (sheet s (r + next-at) ≡ some (linkWord r p))
       on =
           let f = W .found z r r-in in let st = start s W z r r-in in (
             omega arith,
             omega arith,
-            at-on s r z (f .0) (f .1) large
+            at-on s r z (f .0) (f .1) is-large
                 ∙ ap (link r) (ap (λ (l : List ℕ). nextIn l r) is-in ∙ next-last u us (p ∷ vs) (λ q. omega (arith, bz q, W .once z q))),
           )
 
-      own4 : (p + 4) % 4 ≡ 0 × (p + 4 + 4 ≤ end s) × (sheet s (p + 4) ≡ some (linkWord p r))
-      own4 =
+      own-back : (p + previous-at) % 4 ≡ 0 × (p + previous-at + 4 ≤ end s) × (sheet s (p + previous-at) ≡ some (linkWord p r))
+      own-back =
           let f = W .found z p p-in in let st = start s W z p p-in in (
             omega arith,
             omega arith,
-            at-back s p z (f .0) (f .1) large
+            at-back s p z (f .0) (f .1) is-large
                 ∙ ap (link p) (ap (λ (l : List ℕ). prevIn 0 l p) is-in ∙ prev-p 0 p (u ∷ us) vs p-us),
           )
 
-      own8 : (p + 8) % 4 ≡ 0 × (p + 8 + 4 ≤ end s) × (sheet s (p + 8) ≡ some (linkWord p (first vs)))
-      own8 =
+      own-on : (p + next-at) % 4 ≡ 0 × (p + next-at + 4 ≤ end s) × (sheet s (p + next-at) ≡ some (linkWord p (first vs)))
+      own-on =
           let f = W .found z p p-in in let st = start s W z p p-in in (
             omega arith,
             omega arith,
-            at-on s p z (f .0) (f .1) large
+            at-on s p z (f .0) (f .1) is-large
                 ∙ ap (link p) (ap (λ (l : List ℕ). nextIn l p) is-in ∙ next-p p (u ∷ us) vs p-us),
           )
 
@@ -100,7 +101,7 @@ module _ (s : State) (W : Loose s) (z p u : ℕ) (us vs : List ℕ) (is-in : s .
             (
               omega arith,
               omega arith,
-              at-back s nx z (f .0) (f .1) large ∙ ap (link nx) (ap (λ (l : List ℕ). prevIn 0 l nx) c
+              at-back s nx z (f .0) (f .1) is-large ∙ ap (link nx) (ap (λ (l : List ℕ). prevIn 0 l nx) c
                   ∙ prev-p 0 nx (u ∷ us ++ p ∷ []) ws
                   (omega (arith, W .once z nx, ap (count nx) c, count-append nx (u ∷ us ++ p ∷ []) (nx ∷ ws), count-here nx ws))
                   ∙ ap some (last-snoc 0 p (u ∷ us))),

@@ -1,13 +1,13 @@
 -- A free large block that stands in no list enters its bin: one step from sheet to sheet, in second place or as the only one.
 use mathlib.Core.List.{List, [], _∷_}
-use mathlib.Core.Logic.{_≢_, _⊎_, inl, inr}
+use mathlib.Core.Logic.{_≢_, inl, inr}
 use mathlib.Core.Path.{_∙_, _≡_, ap, refl, subst, sym}
 use Prim.Native.Nat.{_<_, _≤_, suc, ℕ}
 use native.Mathlib.Omega.{arith}
 use Rattle.paper.proofs.bins.BinLaws.{count-rebin-enter}
 use Rattle.paper.proofs.bins.Bins.{empty, nil-of}
 use Rattle.paper.proofs.steps.Enter.{enter-frame, enter-good, enter-puts, rebin-back}
-use Rattle.paper.proofs.steps.First.{Pred}
+use Rattle.paper.proofs.steps.First.{OnLevel, Pred}
 use Rattle.paper.proofs.steps.Leave.{frame, reach-same}
 use Rattle.paper.proofs.steps.Leaving.{rebinned}
 use Rattle.paper.proofs.bins.Listed.{Loose, rebin-other, rebin-same, start}
@@ -19,6 +19,7 @@ use Rattle.paper.proofs.runs.Walk.{In}
 use Rattle.paper.specs.Bins.{count, enter, first}
 use Rattle.paper.specs.Blocks.{Block, State, block, blocks, end, free}
 use Rattle.paper.specs.Governed.{above, height, reach, sheet}
+use Rattle.paper.specs.Layout.{blocks-at, large}
 use Rattle.words.specs.Choice.{by<, by=, if=, if=-no, if=-yes}
 
 -- a list by its first
@@ -45,7 +46,7 @@ module _ (s : State) (W : Loose s) where
       ∙ sym (seek-gap (reach (s .top) (end s) (s .bins) j) (m .0) (λ o. n (sym (m .2) ∙ o)) (end s) (suc z) far
       (omega (arith, start s W (m .0) _ (r .2))) (λ u a b. m .3 u (omega arith) b)))
 
-module _ (s : State) (W : Loose s) (q z P : ℕ) (at : In (blocks s) 168 1 q (block z free) P) (un : count q (s .bins z) ≡ 0) where
+module _ (s : State) (W : Loose s) (q z P : ℕ) (at : In (blocks s) blocks-at 1 q (block z free) P) (un : count q (s .bins z) ≡ 0) where
   abbrev pub entered : State
   entered = rebinned s z (enter q (s .bins z))
 
@@ -62,7 +63,11 @@ module _ (s : State) (W : Loose s) (q z P : ℕ) (at : In (blocks s) 168 1 q (bl
             (λ n. omega (arith, count-rebin-enter (s .bins) z q y x, if=-no {A = ℕ} z y (if= q x 1 0) 0 n, W .once y x));
         found = λ y x i. by= z y
             (λ e. by= q x
-            (λ f. (P, subst (λ (b : Block). In (blocks s) 168 1 x b P) (ap (λ (k : ℕ). block k free) e) (subst (λ (k : ℕ). In (blocks s) 168 1 k (block z free) P) f at)))
+            (λ f. (
+              P,
+              subst (λ (b : Block). In (blocks s) blocks-at 1 x b P) (ap (λ (k : ℕ). block k free) e)
+                  (subst (λ (k : ℕ). In (blocks s) blocks-at 1 k (block z free) P) f at),
+            ))
             (λ n. W .found y x (omega (arith, count-rebin-enter (s .bins) z q y x, if=-yes {A = ℕ} z y (if= q x 1 0) 0 e, if=-no {A = ℕ} q x 1 0 n))))
             (λ n. W .found y x (omega (arith, count-rebin-enter (s .bins) z q y x, if=-no {A = ℕ} z y (if= q x 1 0) 0 n)));
       }
@@ -93,8 +98,7 @@ module _ (s : State) (W : Loose s) (q z P : ℕ) (at : In (blocks s) 168 1 q (bl
         who = side (A .who);
       }
     where
-      side : ((y ≡ 64) × (w ≡ 96)) ⊎ ((reach (s .top) (end s) (s .bins) j y ≡ w) × (w ≢ 0) × (72 ≤ y))
-          → ((y ≡ 64) × (w ≡ 96)) ⊎ ((reach (s .top) (end s) (entered .bins) j y ≡ w) × (w ≢ 0) × (72 ≤ y))
+      side : OnLevel s j y w → OnLevel entered j y w
       side (inl b) = inl b
       side (inr b) = inr (entered-reach j y (omega (arith, A .below)) ∙ b .0, b .1, b .2)
 
@@ -104,15 +108,15 @@ module _ (s : State) (W : Loose s) (q z P : ℕ) (at : In (blocks s) 168 1 q (bl
       seek-cong (reach (s .top) (end s) (entered .bins) j) (reach (s .top) (end s) (s .bins) j) (end s) (suc z)
       (λ u a. entered-reach j u (omega arith))
 
-  module _ (large : 72 ≤ z) where
+  module _ (is-large : large ≤ z) where
     pub second-step : (u : ℕ) (vs : List ℕ) → s .bins z ≡ u ∷ vs → Step (end s) (sheet s) (sheet entered) (enter-puts u [] q vs)
     unfolding enter
     second-step u vs e =
         subst (λ (t : State). Step (end s) (sheet t) (sheet entered) (enter-puts u [] q vs))
         (ap (λ (l : List ℕ). rebinned entered z l) (sym e) ∙ entering-back)
         (record {
-          good = enter-good entered entering-loose z q u [] vs is-in large;
-          frame = λ a al _ o. enter-frame entered entering-loose z q u [] vs is-in large a al o;
+          good = enter-good entered entering-loose z q u [] vs is-in is-large;
+          frame = λ a al _ o. enter-frame entered entering-loose z q u [] vs is-in is-large a al o;
         })
       where
         is-in : entered .bins z ≡ u ∷ q ∷ vs
@@ -125,8 +129,8 @@ module _ (s : State) (W : Loose s) (q z P : ℕ) (at : In (blocks s) 168 1 q (bl
         subst (λ (t : State). Step (end s) (sheet t) (sheet entered) (only-puts entered z q w))
         (ap (λ (l : List ℕ). rebinned entered z l) (sym e) ∙ entering-back)
         (record {
-          good = only-good entered entering-loose z q is-in large y w preds';
-          frame = λ a al _ o. only-frame entered entering-loose z q is-in large y w preds' a al o;
+          good = only-good entered entering-loose z q is-in is-large y w preds';
+          frame = λ a al _ o. only-frame entered entering-loose z q is-in is-large y w preds' a al o;
         })
       where
         is-in : entered .bins z ≡ q ∷ []

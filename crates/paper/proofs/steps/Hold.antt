@@ -12,6 +12,7 @@ use Rattle.paper.proofs.sheet.Stores.{Elsewhere, Good}
 use Rattle.paper.proofs.runs.Walk.{In, flagPast, freeSum-append, in-mid, total-append}
 use Rattle.paper.specs.Blocks.{Block, Kind, State, block, blocks, end, free, freeSum, held, remainder, total}
 use Rattle.paper.specs.Governed.{blockWord, headWord, headerWord, index, sheet, walk}
+use Rattle.paper.specs.Layout.{blocks-at, false-block, free-word-at}
 use Rattle.words.specs.Choice.{by<, by=, if<, if=, ifs}
 
 module _ (t rest : ℕ) (xs ys high : List Block) (bins : ℕ → List ℕ) (z y : ℕ) where
@@ -20,7 +21,7 @@ module _ (t rest : ℕ) (xs ys high : List Block) (bins : ℕ → List ℕ) (z y
   hold-state k = record { top = t; low = xs ++ block z k ∷ block y held ∷ ys; rest = rest; high = high; bins = bins }
 
   abbrev pub hold-at : ℕ
-  hold-at = 168 + total xs
+  hold-at = blocks-at + total xs
 
   abbrev pub hold-tail : List Block
   hold-tail = ys ++ block rest remainder ∷ high
@@ -44,7 +45,7 @@ module _ (t rest : ℕ) (xs ys high : List Block) (bins : ℕ → List ℕ) (z y
   end-same = omega (arith, total-is held, total-is free)
 
   unfoldable pub hold-puts : List (ℕ × ℕ)
-  hold-puts = (0, freeSum (blocks (hold-state free)) - z - 4) ∷ (hold-at, headWord z held (flagPast 1 xs)) ∷ (hold-at + z, headWord y held 1) ∷ []
+  hold-puts = (free-word-at, freeSum (blocks (hold-state free)) - z - 4) ∷ (hold-at, headWord z held (flagPast 1 xs)) ∷ (hold-at + z, headWord y held 1) ∷ []
 
   header-same : (w : ℕ) → w ≢ 0 → headerWord (hold-state held) w ≡ headerWord (hold-state free) w
   unfolding headerWord
@@ -52,35 +53,37 @@ module _ (t rest : ℕ) (xs ys high : List Block) (bins : ℕ → List ℕ) (z y
       let e : total (hold-state held .low) ≡ total (hold-state free .low) = low-is held ∙ sym (low-is free) in
       simp ifs (rw e)
 
-  hold-walk : (n a : ℕ) → 168 ≤ a → a ≢ 168 + total xs → a ≢ 168 + total xs + z
-      → NothingNew (walk (blockWord t n bins) (xs ++ block z held ∷ block y held ∷ hold-tail) 168 1 a)
-      (walk (blockWord t n bins) (xs ++ block z free ∷ block y held ∷ hold-tail) 168 1 a)
+  hold-walk : (n a : ℕ) → blocks-at ≤ a → a ≢ blocks-at + total xs → a ≢ blocks-at + total xs + z
+      → NothingNew (walk (blockWord t n bins) (xs ++ block z held ∷ block y held ∷ hold-tail) blocks-at 1 a)
+      (walk (blockWord t n bins) (xs ++ block z free ∷ block y held ∷ hold-tail) blocks-at 1 a)
   unfolding walk
   hold-walk n a l n0 n1 =
-      walk-mid NothingNew (λ x. inr refl) (blockWord t n bins) xs (block z held ∷ block y held ∷ hold-tail) (block z free ∷ block y held ∷ hold-tail) 168 1 a l
-      (λ m. by< a (168 + total xs + z)
+      walk-mid NothingNew (λ x. inr refl) (blockWord t n bins) xs (block z held ∷ block y held ∷ hold-tail) (block z free ∷ block y held ∷ hold-tail)
+      blocks-at 1 a l
+      (λ m. by< a (blocks-at + total xs + z)
       (λ i. let o : a - (168 + total xs) ≢ 0 = omega arith in inl (simp ifs))
-      (λ i. by< a (168 + total xs + z + y)
+      (λ i. by< a (blocks-at + total xs + z + y)
       (λ k. let o : a - (168 + total xs + z) ≢ 0 = omega arith in inl (simp ifs))
       (λ k. inr (simp ifs))))
 
   pub hold-frame : (a : ℕ) → a % 4 ≡ 0 → Elsewhere a hold-puts → NothingNew (sheet (hold-state held) a) (sheet (hold-state free) a)
   unfolding sheet hold-puts
   hold-frame a al out =
-      by< a 96
+      by< a false-block
       (λ l. inr (simp ifs (by= (a % 8) 0 (λ e. simp ifs (ap some (header-same (a / 8) (omega arith)))) (λ e. simp ifs))))
-      (λ l. by< a 168
-      (λ m. inr (simp ifs (ap (λ (n : ℕ). index t n bins (some 0) t 96 64 (a - 96)) end-same)))
+      (λ l. by< a blocks-at
+      (λ m. inr (simp ifs (ap (λ (n : ℕ). index t n bins (some 0) t false-block 64 (a - false-block)) end-same)))
       (λ m. simp ifs (rw (end-same, hold-blocks held, hold-blocks free)
-      (hold-walk (168 + total (xs ++ block z free ∷ block y held ∷ hold-tail)) a m (out .1 .0) (out .1 .1 .0)))))
+      (hold-walk (blocks-at + total (xs ++ block z free ∷ block y held ∷ hold-tail)) a m (out .1 .0) (out .1 .1 .0)))))
 
-  pub hold-in : (k : Kind) → In (blocks (hold-state k)) 168 1 hold-at (block z k) (flagPast 1 xs)
-  hold-in k = rw (hold-blocks k) (in-mid xs (block z k ∷ block y held ∷ hold-tail) 168 1 hold-at (block z k) (flagPast 1 xs) (inl (refl, refl, refl)))
+  pub hold-in : (k : Kind) → In (blocks (hold-state k)) blocks-at 1 hold-at (block z k) (flagPast 1 xs)
+  hold-in k = rw (hold-blocks k) (in-mid xs (block z k ∷ block y held ∷ hold-tail) blocks-at 1 hold-at (block z k) (flagPast 1 xs) (inl (refl, refl, refl)))
 
-  pub hold-next : In (blocks (hold-state held)) 168 1 (hold-at + z) (block y held) 1
-  hold-next = rw (hold-blocks held) (in-mid xs (block z held ∷ block y held ∷ hold-tail) 168 1 (hold-at + z) (block y held) 1 (inr (inl (refl, refl, refl))))
+  pub hold-next : In (blocks (hold-state held)) blocks-at 1 (hold-at + z) (block y held) 1
+  hold-next = rw (hold-blocks held) (in-mid xs (block z held ∷ block y held ∷ hold-tail) blocks-at 1 (hold-at + z) (block y held) 1
+      (inr (inl (refl, refl, refl))))
 
-  module _ (z0 : 8 ≤ z) (y0 : 8 ≤ y) (pz : z % 8 ≡ 0) (px : (168 + total xs) % 8 ≡ 0) where
+  module _ (z0 : 8 ≤ z) (y0 : 8 ≤ y) (pz : z % 8 ≡ 0) (px : (blocks-at + total xs) % 8 ≡ 0) where
     pub hold-good : Good (sheet (hold-state held)) (end (hold-state held)) hold-puts
     unfolding hold-puts sheet headerWord if< if=
     hold-good = (

@@ -15,6 +15,7 @@ use Rattle.paper.proofs.runs.Walk.{In, flagPast, freeSum-append, in-mid
 use Rattle.paper.specs.Bins.{count, first}
 use Rattle.paper.specs.Blocks.{Block, State, block, blocks, end, free, freeSum, held, remainder, total}
 use Rattle.paper.specs.Governed.{blockWord, headWord, headerWord, index, largeWord, link, sheet, walk}
+use Rattle.paper.specs.Layout.{blocks-at, false-block, free-word-at, large}
 use Rattle.words.specs.Choice.{by<, by=, if<, if<-no, if<-yes, if=, ifs}
 
 module _ (t rest : ℕ) (xs ms ys high : List Block) (y : ℕ) where
@@ -28,7 +29,7 @@ module _ (t rest : ℕ) (xs ms ys high : List Block) (y : ℕ) where
   join-tail = block y held ∷ (ys ++ block rest remainder ∷ high)
 
   abbrev join-at : ℕ
-  join-at = 168 + total xs
+  join-at = blocks-at + total xs
 
   old-blocks : (b : ℕ → List ℕ) → blocks (unjoined b) ≡ xs ++ (ms ++ join-tail)
   old-blocks b = append-assoc xs (ms ++ block y held ∷ ys) (block rest remainder ∷ high)
@@ -52,19 +53,21 @@ module _ (t rest : ℕ) (xs ms ys high : List Block) (y : ℕ) where
 
   unfoldable pub join-puts : List (ℕ × ℕ)
   join-puts =
-      (0, freeSum xs + (total ms + freeSum join-tail) - 4) ∷ (join-at, headWord (total ms) free (flagPast 1 xs)) ∷
+      (free-word-at, freeSum xs + (total ms + freeSum join-tail) - 4) ∷ (join-at, headWord (total ms) free (flagPast 1 xs)) ∷
       (join-at + (total ms - 4), headWord (total ms) free (flagPast 1 xs)) ∷ (join-at + total ms, headWord y held 0) ∷ []
 
   header-same : (b : ℕ → List ℕ) (w : ℕ) → w ≢ 0 → headerWord (joined b) w ≡ headerWord (unjoined b) w
   unfolding headerWord
   header-same b w n = let e = low-same b in simp ifs (rw e)
 
-  module _ (big : 72 ≤ total ms) (y8 : 8 ≤ y) where
-    join-walk : (b : ℕ → List ℕ) (n a : ℕ) → count join-at (b (total ms)) ≡ 0 → 168 ≤ a → a ≢ join-at → a ≢ join-at + (total ms - 4) → a ≢ join-at + total ms
-        → NothingNew (walk (blockWord t n b) (xs ++ block (total ms) free ∷ join-tail) 168 1 a) (walk (blockWord t n b) (xs ++ (ms ++ join-tail)) 168 1 a)
+  module _ (big : large ≤ total ms) (y8 : 8 ≤ y) where
+    join-walk : (b : ℕ → List ℕ) (n a : ℕ) → count join-at (b (total ms)) ≡ 0
+        → blocks-at ≤ a → a ≢ join-at → a ≢ join-at + (total ms - 4) → a ≢ join-at + total ms
+        → NothingNew (walk (blockWord t n b) (xs ++ block (total ms) free ∷ join-tail) blocks-at 1 a)
+        (walk (blockWord t n b) (xs ++ (ms ++ join-tail)) blocks-at 1 a)
     unfolding walk largeWord
     join-walk b n a un l n0 n1 n2 =
-        walk-mid NothingNew (λ x. inr refl) (blockWord t n b) xs (block (total ms) free ∷ join-tail) (ms ++ join-tail) 168 1 a l
+        walk-mid NothingNew (λ x. inr refl) (blockWord t n b) xs (block (total ms) free ∷ join-tail) (ms ++ join-tail) blocks-at 1 a l
         (λ m. by< a (join-at + total ms)
         (λ i. inl (if<-yes a (join-at + total ms) _ _ i ∙ inside i m))
         (λ i. by< a (join-at + total ms + y)
@@ -82,14 +85,14 @@ module _ (t rest : ℕ) (xs ms ys high : List Block) (y : ℕ) where
         → NothingNew (sheet (joined b) a) (sheet (unjoined b) a)
     unfolding sheet join-puts
     join-frame b un a al out =
-        by< a 96
+        by< a false-block
         (λ l. inr (simp ifs (by= (a % 8) 0 (λ e. simp ifs (ap some (header-same b (a / 8) (omega arith)))) (λ e. simp ifs))))
-        (λ l. by< a 168
-        (λ m. inr (simp ifs (ap (λ (n : ℕ). index t n b (some 0) t 96 64 (a - 96)) (end-join b))))
+        (λ l. by< a blocks-at
+        (λ m. inr (simp ifs (ap (λ (n : ℕ). index t n b (some 0) t false-block 64 (a - false-block)) (end-join b))))
         (λ m. simp ifs (rw (end-join b, new-blocks b, old-blocks b)
-        (join-walk b (168 + total (xs ++ (ms ++ join-tail))) a un m (out .1 .0) (out .1 .1 .0) (out .1 .1 .1 .0)))))
+        (join-walk b (blocks-at + total (xs ++ (ms ++ join-tail))) a un m (out .1 .0) (out .1 .1 .0) (out .1 .1 .1 .0)))))
 
-    module _ (pz : total ms % 8 ≡ 0) (px : (168 + total xs) % 8 ≡ 0) where
+    module _ (pz : total ms % 8 ≡ 0) (px : (blocks-at + total xs) % 8 ≡ 0) where
       pub join-good : (b : ℕ → List ℕ) → Good (sheet (joined b)) (end (joined b)) join-puts
       unfolding join-puts sheet headerWord if< if=
       join-good b = (
@@ -103,11 +106,12 @@ module _ (t rest : ℕ) (xs ms ys high : List Block) (y : ℕ) where
         ),
       )
         where
-          at : In (blocks (joined b)) 168 1 join-at (block (total ms) free) (flagPast 1 xs)
-          at = rw (new-blocks b) (in-mid xs (block (total ms) free ∷ join-tail) 168 1 join-at (block (total ms) free) (flagPast 1 xs) (inl (refl, refl, refl)))
+          at : In (blocks (joined b)) blocks-at 1 join-at (block (total ms) free) (flagPast 1 xs)
+          at = rw (new-blocks b) (in-mid xs (block (total ms) free ∷ join-tail) blocks-at 1 join-at (block (total ms) free) (flagPast 1 xs)
+              (inl (refl, refl, refl)))
 
-          next : In (blocks (joined b)) 168 1 (join-at + total ms) (block y held) 0
-          next = rw (new-blocks b) (in-mid xs (block (total ms) free ∷ join-tail) 168 1 (join-at + total ms) (block y held) 0
+          next : In (blocks (joined b)) blocks-at 1 (join-at + total ms) (block y held) 0
+          next = rw (new-blocks b) (in-mid xs (block (total ms) free ∷ join-tail) blocks-at 1 (join-at + total ms) (block y held) 0
               (inr (inl (refl, refl, sym (if<-no (total ms) 72 1 0 big)))))
 
       pub join-step : (b : ℕ → List ℕ) → count join-at (b (total ms)) ≡ 0 → Step (end (joined b)) (sheet (unjoined b)) (sheet (joined b)) join-puts

@@ -9,7 +9,7 @@ use Rattle.heads.specs.Links.{linkWord}
 use Rattle.paper.proofs.bins.BinLaws.{count-rebin-enter}
 use Rattle.paper.proofs.bins.Bins.{count-append, count-here, count-there, first-count, last-count, lastOr, next-absent, next-mem, prev-absent, prev-some}
 use Rattle.paper.proofs.sheet.Fields.{at-back, at-block, at-level, at-on, at-word, false-word, height-le}
-use Rattle.paper.proofs.steps.First.{Pred, first-puts, heir-puts, reach-is}
+use Rattle.paper.proofs.steps.First.{OnLevel, Pred, first-puts, heir-puts, reach-is}
 use Rattle.paper.proofs.steps.LeaveStep.{leave-puts}
 use Rattle.paper.proofs.steps.Leaving.{back-puts, later-puts}
 use Rattle.paper.proofs.bins.Listed.{Loose, rebin-other, rebin-same, start}
@@ -18,13 +18,14 @@ use Rattle.paper.proofs.sheet.Stores.{Elsewhere}
 use Rattle.paper.proofs.runs.Walk.{In}
 use Rattle.paper.specs.Bins.{count, enter, first, rebin}
 use Rattle.paper.specs.Blocks.{State, block, blocks, end, free}
-use Rattle.paper.specs.Governed.{height, largeWord, link, reach, sheet}
+use Rattle.paper.specs.Governed.{height, largeWord, link, sheet}
+use Rattle.paper.specs.Layout.{blocks-at, false-block, large, level-at, next-at, previous-at}
 use Rattle.words.specs.Choice.{by=, ifs}
 
 pub data Word (t : ℕ) (b : ℕ → List ℕ) : ℕ → Type 0 where
-  on-list : (x y o : ℕ) → 72 ≤ y → 1 ≤ count x (b y) → (o ≡ 4) ⊎ (o ≡ 8) → Word t b (x + o)
-  on-first : (x y o : ℕ) → 72 ≤ y → first (b y) ≡ x → x ≢ 0 → (o ≡ 12) ⊎ ((j : ℕ) × (1 ≤ j) × (j ≤ height t y) × (o ≡ 68 - 4 * j)) → Word t b (x + o)
-  on-false : (o : ℕ) → ((j : ℕ) × (1 ≤ j) × (j ≤ t) × (o ≡ 68 - 4 * j)) → Word t b (96 + o)
+  on-list : (x y o : ℕ) → large ≤ y → 1 ≤ count x (b y) → (o ≡ previous-at) ⊎ (o ≡ next-at) → Word t b (x + o)
+  on-first : (x y o : ℕ) → large ≤ y → first (b y) ≡ x → x ≢ 0 → (o ≡ level-at) ⊎ ((j : ℕ) × (1 ≤ j) × (j ≤ height t y) × (o ≡ 68 - 4 * j)) → Word t b (x + o)
+  on-false : (o : ℕ) → ((j : ℕ) × (1 ≤ j) × (j ≤ t) × (o ≡ 68 - 4 * j)) → Word t b (false-block + o)
 
 some-not : (x : Option ℕ) (v : ℕ) → x ≡ some v → x ≢ none
 some-not x v e f = let z : _≡_ {A = ℕ} 0 1 = cc in omega arith
@@ -34,19 +35,19 @@ pub word-governed : (s : State) (W : Loose s) (a : ℕ) → Word (s .top) (s .bi
 word-governed s W a (on-list x y o y72 i (inl e)) =
     let f = W .found y x i in let st = start s W y x i in
     let m = prev-some 0 x (s .bins y) (omega arith) i in
-    rw e (some-not (sheet s (x + 4)) (linkWord x (m .0)) (at-back s x y (f .0) (f .1) y72 ∙ ap (link x) (m .1)))
+    rw e (some-not (sheet s (x + previous-at)) (linkWord x (m .0)) (at-back s x y (f .0) (f .1) y72 ∙ ap (link x) (m .1)))
 word-governed s W a (on-list x y o y72 i (inr e)) =
     let f = W .found y x i in
     let m = next-mem x (s .bins y) i in
-    rw e (some-not (sheet s (x + 8)) (linkWord x (m .0)) (at-on s x y (f .0) (f .1) y72 ∙ ap (link x) (m .1)))
+    rw e (some-not (sheet s (x + next-at)) (linkWord x (m .0)) (at-on s x y (f .0) (f .1) y72 ∙ ap (link x) (m .1)))
 word-governed s W a (on-first x y o y72 g n (inl e)) =
     let f = W .found y x (first-count (s .bins y) x g n) in
-    rw e (some-not (sheet s (x + 12)) (height (s .top) y) (at-level s x y (f .0) (f .1) y72 g))
+    rw e (some-not (sheet s (x + level-at)) (height (s .top) y) (at-level s x y (f .0) (f .1) y72 g))
 word-governed s W a (on-first x y o y72 g n (inr e)) =
     let f = W .found y x (first-count (s .bins y) x g n) in
     rw (e .3) (some-not (sheet s (x + (68 - 4 * e .0))) _ (at-word s x y (f .0) (f .1) y72 g (e .0) (e .1) (e .2) (W .top13)))
 word-governed s W a (on-false o e) =
-    rw (e .3) (some-not (sheet s (96 + (68 - 4 * e .0))) _ (false-word s (e .0) (e .1) (e .2) (W .top13)))
+    rw (e .3) (some-not (sheet s (false-block + (68 - 4 * e .0))) _ (false-word s (e .0) (e .1) (e .2) (W .top13)))
 
 abbrev pub Words : ℕ → (ℕ → List ℕ) → List (ℕ × ℕ) → Type 0
 Words t b [] = Unit {0}
@@ -61,12 +62,12 @@ words-each t b zero f k = tt
 words-each t b (suc h) f k = (k (suc h) (omega arith) (omega arith), words-each t b h f (λ j l m. k j l (omega arith)))
 
 -- leaving stores at such words only
-pub leave-words : (s : State) (W : Loose s) (z p : ℕ) (us vs : List ℕ) (is-in : s .bins z ≡ us ++ p ∷ vs) (large : 72 ≤ z) (y₀ w : ℕ → ℕ)
+pub leave-words : (s : State) (W : Loose s) (z p : ℕ) (us vs : List ℕ) (is-in : s .bins z ≡ us ++ p ∷ vs) (is-large : large ≤ z) (y₀ w : ℕ → ℕ)
     → ((j : ℕ) → 1 ≤ j → j ≤ height (s .top) z → Pred s z j (y₀ j) (w j))
     → Words (s .top) (rebin (s .bins) z (us ++ vs)) (leave-puts s z w us vs)
 unfolding leave-puts later-puts first-puts back-puts heir-puts first
-leave-words s W z p (u ∷ us) vs is-in large y₀ w preds = (
-  on-list (lastOr u us) z 8 large (rw rebin-same (omega (arith, last-count u us, count-append (lastOr u us) (u ∷ us) vs)))
+leave-words s W z p (u ∷ us) vs is-in is-large y₀ w preds = (
+  on-list (lastOr u us) z next-at is-large (rw rebin-same (omega (arith, last-count u us, count-append (lastOr u us) (u ∷ us) vs)))
       (inr refl),
   rest vs refl,
 )
@@ -74,11 +75,11 @@ leave-words s W z p (u ∷ us) vs is-in large y₀ w preds = (
     rest : (ws : List ℕ) → vs ≡ ws → Words (s .top) (rebin (s .bins) z (u ∷ us ++ vs)) (back-puts (lastOr u us) ws)
     rest [] e = tt
     rest (nx ∷ ws) e = (
-      on-list nx z 4 large (rw (rebin-same, e) (omega (arith, count-append nx (u ∷ us) (nx ∷ ws), count-here nx ws)))
+      on-list nx z previous-at is-large (rw (rebin-same, e) (omega (arith, count-append nx (u ∷ us) (nx ∷ ws), count-here nx ws)))
           (inl refl),
       tt,
     )
-leave-words s W z p [] vs is-in large y₀ w preds =
+leave-words s W z p [] vs is-in is-large y₀ w preds =
     words-append (s .top) (rebin (s .bins) z vs) (back-puts 0 vs) _ (back vs refl)
     (words-append (s .top) (rebin (s .bins) z vs) (heir-puts s z vs) _ (mine vs refl)
     (words-each (s .top) (rebin (s .bins) z vs) (height (s .top) z) _ (λ j j1 l. pred j j1 l (preds j j1 l))))
@@ -90,21 +91,20 @@ leave-words s W z p [] vs is-in large y₀ w preds =
 
     back : (ws : List ℕ) → vs ≡ ws → Words (s .top) (rebin (s .bins) z vs) (back-puts 0 ws)
     back [] e = tt
-    back (nx ∷ ws) e = (on-list nx z 4 large (rw (rebin-same, e) (omega (arith, count-here nx ws))) (inl refl), tt)
+    back (nx ∷ ws) e = (on-list nx z previous-at is-large (rw (rebin-same, e) (omega (arith, count-here nx ws))) (inl refl), tt)
 
     mine : (ws : List ℕ) → vs ≡ ws → Words (s .top) (rebin (s .bins) z vs) (heir-puts s z ws)
     mine [] e = tt
     mine (nx ∷ ws) e = (
-      on-first nx z 12 large (rw (rebin-same, e)) (nonzero nx ws e) (inl refl),
+      on-first nx z level-at is-large (rw (rebin-same, e)) (nonzero nx ws e) (inl refl),
       words-each (s .top) (rebin (s .bins) z vs) (height (s .top) z) _
-          (λ j j1 l. on-first nx z (68 - 4 * j) large (rw (rebin-same, e)) (nonzero nx ws e) (inr (j, j1, l, refl))),
+          (λ j j1 l. on-first nx z (68 - 4 * j) is-large (rw (rebin-same, e)) (nonzero nx ws e) (inr (j, j1, l, refl))),
     )
 
     pred : (j : ℕ) → 1 ≤ j → j ≤ height (s .top) z → Pred s z j (y₀ j) (w j) → Word (s .top) (rebin (s .bins) z vs) (w j + (68 - 4 * j))
     pred j j1 l P = go (P .who)
       where
-        go : ((y₀ j ≡ 64) × (w j ≡ 96)) ⊎ ((reach (s .top) (end s) (s .bins) j (y₀ j) ≡ w j) × (w j ≢ 0) × (72 ≤ y₀ j))
-            → Word (s .top) (rebin (s .bins) z vs) (w j + (68 - 4 * j))
+        go : OnLevel s j (y₀ j) (w j) → Word (s .top) (rebin (s .bins) z vs) (w j + (68 - 4 * j))
         go (inl b) = rw (b .1) (on-false (68 - 4 * j) (j, j1, omega (arith, height-le (s .top) z), refl))
         go (inr b) =
             let r = reach-is (s .top) (end s) (s .bins) j (y₀ j) (w j) (b .0) (b .1) in
@@ -147,13 +147,13 @@ grow-word : (t r : ℕ) (b b' : ℕ → List ℕ) → t ≤ 13 → Grow r b b' �
 grow-word t r b b' t13 G a (on-list x y o y72 i k) =
     by= x r (λ e. inl (small k e)) (λ n. inr (on-list x y o y72 (G .stays x y n i) k))
   where
-    small : (o ≡ 4) ⊎ (o ≡ 8) → x ≡ r → (r + 4 ≤ x + o) × (x + o < r + 68)
+    small : (o ≡ previous-at) ⊎ (o ≡ next-at) → x ≡ r → (r + 4 ≤ x + o) × (x + o < r + 68)
     small (inl e) f = omega arith
     small (inr e) f = omega arith
 grow-word t r b b' t13 G a (on-first x y o y72 g m k) =
     by= x r (λ e. inl (small k e)) (λ n. inr (on-first x y o y72 (G .leads x y n m g) m k))
   where
-    small : (o ≡ 12) ⊎ ((j : ℕ) × (1 ≤ j) × (j ≤ height t y) × (o ≡ 68 - 4 * j)) → x ≡ r → (r + 4 ≤ x + o) × (x + o < r + 68)
+    small : (o ≡ level-at) ⊎ ((j : ℕ) × (1 ≤ j) × (j ≤ height t y) × (o ≡ 68 - 4 * j)) → x ≡ r → (r + 4 ≤ x + o) × (x + o < r + 68)
     small (inl e) f = omega arith
     small (inr e) f = omega (arith, height-le t y)
 grow-word t r b b' t13 G a (on-false o k) = inr (on-false o k)
@@ -176,15 +176,15 @@ out-words s W r b G (q ∷ ps) k a e =
     there n (inr h) = inr (n, h)
 
 -- a free block that stands in no list has no such words
-pub unlisted : (s : State) (q z P : ℕ) → In (blocks s) 168 1 q (block z free) P → 72 ≤ z → count q (s .bins z) ≡ 0 → (o : ℕ) → 4 ≤ o → o < 68 → 168 ≤ q
-    → sheet s (q + o) ≡ none
+pub unlisted : (s : State) (q z P : ℕ) → In (blocks s) blocks-at 1 q (block z free) P → large ≤ z → count q (s .bins z) ≡ 0
+    → (o : ℕ) → 4 ≤ o → o < 68 → blocks-at ≤ q → sheet s (q + o) ≡ none
 unfolding largeWord
 unlisted s q z P h l un o a b c =
     let o0 : o ≢ 0 = omega arith in let of : o ≢ z - 4 = omega arith in
     let fp : first (s .bins z) ≢ q = (λ e. omega (arith, un, first-count (s .bins z) q e (omega arith))) in
     at-block s q (block z free) P o h (omega arith)
-    ∙ by= o 4 (λ e. simp ifs (ap (link q) (prev-absent 0 (s .bins z) q un)))
-    (λ e4. by= o 8 (λ e. simp ifs (ap (link q) (next-absent (s .bins z) q un))) (λ e8. simp ifs))
+    ∙ by= o previous-at (λ e. simp ifs (ap (link q) (prev-absent 0 (s .bins z) q un)))
+    (λ e4. by= o next-at (λ e. simp ifs (ap (link q) (next-absent (s .bins z) q un))) (λ e8. simp ifs))
 
 -- entering a bin takes nothing away, and the first stays first
 pub enter-grows : (r : ℕ) (b : ℕ → List ℕ) (z q : ℕ) → Grow r b (rebin b z (enter q (b z)))

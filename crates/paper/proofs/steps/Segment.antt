@@ -9,6 +9,7 @@ use Rattle.paper.proofs.steps.Leave.{NothingNew}
 use Rattle.paper.proofs.runs.Walk.{flagPast}
 use Rattle.paper.specs.Blocks.{Block, State, blocks, end, size, total}
 use Rattle.paper.specs.Governed.{blockWord, flagAbove, headerWord, index, sheet, walk}
+use Rattle.paper.specs.Layout.{blocks-at, false-block}
 use Rattle.words.specs.Choice.{by<, by=, ifs}
 
 -- two lists that differ past xs
@@ -42,42 +43,42 @@ walk-left f (c ∷ ms) ys p P a l m =
 pub after-same : (f : ℕ → Block → ℕ → ℕ → Option ℕ) (zs : List Block) (q P P' a : ℕ) → P' ≡ P → NothingNew (walk f zs q P' a) (walk f zs q P a)
 after-same f zs q P P' a e = inr (ap (λ (k : ℕ). walk f zs q k a) e)
 
-pub seg-walk : (f : ℕ → Block → ℕ → ℕ → Option ℕ) (xs ms ms' zs : List Block) (a : ℕ) → total ms' ≡ total ms → 168 ≤ a
-    → (168 + total xs + total ms ≤ a
-    → NothingNew (walk f zs (168 + total xs + total ms) (flagPast (flagPast 1 xs) ms') a)
-    (walk f zs (168 + total xs + total ms) (flagPast (flagPast 1 xs) ms) a))
+pub seg-walk : (f : ℕ → Block → ℕ → ℕ → Option ℕ) (xs ms ms' zs : List Block) (a : ℕ) → total ms' ≡ total ms → blocks-at ≤ a
+    → (blocks-at + total xs + total ms ≤ a
+    → NothingNew (walk f zs (blocks-at + total xs + total ms) (flagPast (flagPast 1 xs) ms') a)
+    (walk f zs (blocks-at + total xs + total ms) (flagPast (flagPast 1 xs) ms) a))
     -- in the run itself: nothing, or as before
-    → (168 + total xs ≤ a → a < 168 + total xs + total ms
-    → NothingNew (walk f ms' (168 + total xs) (flagPast 1 xs) a) (walk f ms (168 + total xs) (flagPast 1 xs) a))
-    → NothingNew (walk f (xs ++ (ms' ++ zs)) 168 1 a) (walk f (xs ++ (ms ++ zs)) 168 1 a)
+    → (blocks-at + total xs ≤ a → a < blocks-at + total xs + total ms
+    → NothingNew (walk f ms' (blocks-at + total xs) (flagPast 1 xs) a) (walk f ms (blocks-at + total xs) (flagPast 1 xs) a))
+    → NothingNew (walk f (xs ++ (ms' ++ zs)) blocks-at 1 a) (walk f (xs ++ (ms ++ zs)) blocks-at 1 a)
 seg-walk f xs ms ms' zs a tot l past inside =
-    walk-mid NothingNew (λ x. inr refl) f xs (ms' ++ zs) (ms ++ zs) 168 1 a l
-    (λ m. by< a (168 + total xs + total ms)
-    (λ i. rw (walk-left f ms' zs (168 + total xs) (flagPast 1 xs) a m (omega arith), walk-left f ms zs (168 + total xs) (flagPast 1 xs) a m i)
+    walk-mid NothingNew (λ x. inr refl) f xs (ms' ++ zs) (ms ++ zs) blocks-at 1 a l
+    (λ m. by< a (blocks-at + total xs + total ms)
+    (λ i. rw (walk-left f ms' zs (blocks-at + total xs) (flagPast 1 xs) a m (omega arith), walk-left f ms zs (blocks-at + total xs) (flagPast 1 xs) a m i)
     (inside m i))
-    (λ i. rw (walk-skip f ms' zs (168 + total xs) (flagPast 1 xs) a (omega arith), walk-skip f ms zs (168 + total xs) (flagPast 1 xs) a i, tot)
+    (λ i. rw (walk-skip f ms' zs (blocks-at + total xs) (flagPast 1 xs) a (omega arith), walk-skip f ms zs (blocks-at + total xs) (flagPast 1 xs) a i, tot)
     (past i)))
 
 -- two states that differ so, and in header words
 pub seg-frame : (s s' : State) (xs ms ms' zs : List Block) (a : ℕ)
     → s' .top ≡ s .top → s' .bins ≡ s .bins → blocks s ≡ xs ++ (ms ++ zs) → blocks s' ≡ xs ++ (ms' ++ zs) → end s' ≡ end s → total ms' ≡ total ms
-    → (a < 96 → a % 8 ≡ 0 → headerWord s' (a / 8) ≡ headerWord s (a / 8))
-    → ((n : ℕ) → 168 + total xs + total ms ≤ a
-    → NothingNew (walk (blockWord (s .top) n (s .bins)) zs (168 + total xs + total ms) (flagPast (flagPast 1 xs) ms') a)
-    (walk (blockWord (s .top) n (s .bins)) zs (168 + total xs + total ms) (flagPast (flagPast 1 xs) ms) a))
-    → ((n : ℕ) → 168 + total xs ≤ a → a < 168 + total xs + total ms
-    → NothingNew (walk (blockWord (s .top) n (s .bins)) ms' (168 + total xs) (flagPast 1 xs) a)
-    (walk (blockWord (s .top) n (s .bins)) ms (168 + total xs) (flagPast 1 xs) a))
+    → (a < false-block → a % 8 ≡ 0 → headerWord s' (a / 8) ≡ headerWord s (a / 8))
+    → ((n : ℕ) → blocks-at + total xs + total ms ≤ a
+    → NothingNew (walk (blockWord (s .top) n (s .bins)) zs (blocks-at + total xs + total ms) (flagPast (flagPast 1 xs) ms') a)
+    (walk (blockWord (s .top) n (s .bins)) zs (blocks-at + total xs + total ms) (flagPast (flagPast 1 xs) ms) a))
+    → ((n : ℕ) → blocks-at + total xs ≤ a → a < blocks-at + total xs + total ms
+    → NothingNew (walk (blockWord (s .top) n (s .bins)) ms' (blocks-at + total xs) (flagPast 1 xs) a)
+    (walk (blockWord (s .top) n (s .bins)) ms (blocks-at + total xs) (flagPast 1 xs) a))
     → NothingNew (sheet s' a) (sheet s a)
 unfolding sheet
 seg-frame s s' xs ms ms' zs a te be e e' ee tot hd past inside =
-    by< a 96
+    by< a false-block
     (λ l. inr (simp ifs (by= (a % 8) 0 (λ z. simp ifs (ap some (hd l z))) (λ z. simp ifs))))
-    (λ l. by< a 168
-    (λ m. inr (simp ifs (λ i. index (te i) (ee i) (be i) (some 0) (te i) 96 64 (a - 96))))
+    (λ l. by< a blocks-at
+    (λ m. inr (simp ifs (λ i. index (te i) (ee i) (be i) (some 0) (te i) false-block 64 (a - false-block))))
     (λ m. simp ifs
-    (subst (λ (x : Option ℕ). NothingNew x (walk (blockWord (s .top) (end s) (s .bins)) (blocks s) 168 1 a))
-    (sym (λ i. walk (blockWord (te i) (ee i) (be i)) (e' i) 168 1 a))
-    (subst (λ (x : Option ℕ). NothingNew (walk (blockWord (s .top) (end s) (s .bins)) (xs ++ (ms' ++ zs)) 168 1 a) x)
-    (sym (λ i. walk (blockWord (s .top) (end s) (s .bins)) (e i) 168 1 a))
+    (subst (λ (x : Option ℕ). NothingNew x (walk (blockWord (s .top) (end s) (s .bins)) (blocks s) blocks-at 1 a))
+    (sym (λ i. walk (blockWord (te i) (ee i) (be i)) (e' i) blocks-at 1 a))
+    (subst (λ (x : Option ℕ). NothingNew (walk (blockWord (s .top) (end s) (s .bins)) (xs ++ (ms' ++ zs)) blocks-at 1 a) x)
+    (sym (λ i. walk (blockWord (s .top) (end s) (s .bins)) (e i) blocks-at 1 a))
     (seg-walk (blockWord (s .top) (end s) (s .bins)) xs ms ms' zs a tot m (past (end s)) (inside (end s)))))))
