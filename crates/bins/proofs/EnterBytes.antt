@@ -6,7 +6,7 @@ use Prim.Native.Nat.{_+_, _≤_, ℕ}
 use native.Mathlib.Omega.{arith}
 use Rattle.bins.proofs.Between.{Between}
 use Rattle.bins.proofs.ChainRead.{Found, find-found, found-first}
-use Rattle.bins.proofs.LeaveBytes.{height-one, link-none, one-level}
+use Rattle.bins.proofs.LeaveBytes.{link-none, one-level}
 use Rattle.bins.proofs.LinkRead.{next-in}
 use Rattle.bins.specs.Enter.{between, enterAt, enterBin, enterOnly, enterSecond}
 use Rattle.bins.specs.Find.{find, linkedAt}
@@ -22,6 +22,7 @@ use Rattle.paper.proofs.bins.Smallest.{smallest-exact}
 use Rattle.paper.proofs.reads.LooseReads.{height-pos}
 use Rattle.paper.proofs.steps.Only.{only-puts}
 use Rattle.paper.proofs.sheet.Phases.{Step, step-write}
+use Rattle.paper.proofs.sheet.Fields.{height-one}
 use Rattle.paper.proofs.sheet.Stores.{puts}
 use Rattle.paper.proofs.runs.Walk.{In, in-low}
 use Rattle.paper.specs.Bins.{count, first, enter as enter-list}
@@ -65,7 +66,7 @@ module _ (s : State) (bs : List ℕ) (B : Between s bs)
       → enterOnly bs w next q ≡ puts (only-puts (entered s W q z P at un) z q (λ j. w)) bs
   unfolding enterOnly only-puts
   enterOnly-stores w next e =
-      rw (height-one s z (B .layout-1), link-none q) (ap (λ (k : ℕ). putAt 4
+      rw (height-one (s .top) z (B .layout-1), link-none q) (ap (λ (k : ℕ). putAt 4
       (putAt 4 (putAt 4 (putAt 4 (putAt 4 bs (q + previous-at) 0) (q + next-at) 0) (q + level-at) 1) (q + chain-at) (linkWord q k))
       (w + chain-at) (linkWord w q))
       (e ∙ sym (entered-above s W q z P at un 1)))

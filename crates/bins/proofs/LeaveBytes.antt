@@ -12,6 +12,7 @@ use Rattle.bins.specs.Leave.{headBin, leave, leaveFirst, leaveLater, pas
 use Rattle.heads.specs.Links.{linkWord}
 use Rattle.paper.proofs.bins.Bins.{count-append, count-cons, count-here, last-count, lastOr}
 use Rattle.paper.proofs.bins.Listed.{start}
+use Rattle.paper.proofs.sheet.Fields.{height-one}
 use Rattle.paper.proofs.sheet.Stores.{puts}
 use Rattle.paper.proofs.steps.First.{Pred, first-puts, heir, heir-puts}
 use Rattle.paper.proofs.steps.LeaveStep.{leave-puts}
@@ -24,12 +25,8 @@ use Rattle.words.specs.Choice.{if=-no, if=-yes, ifs}
 use Rattle.words.specs.Words.{putAt}
 
 -- at height 1 the index words are the chain word alone
-pub height-one : (s : State) (z : ℕ) → s .top ≡ 1 → height (s .top) z ≡ 1
-unfolding height
-height-one s z e = omega arith
-
 pub one-level : (s : State) (z y w : ℕ) → s .top ≡ 1 → Pred s z 1 y w → (j : ℕ) → 1 ≤ j → j ≤ height (s .top) z → Pred s z j y w
-one-level s z y w one P j j1 jh = subst (λ (k : ℕ). Pred s z k y w) (omega (arith, height-one s z one)) P
+one-level s z y w one P j j1 jh = subst (λ (k : ℕ). Pred s z k y w) (omega (arith, height-one (s .top) z one)) P
 
 pub link-none : (x : ℕ) → linkWord x 0 ≡ 0
 unfolding linkWord
@@ -70,7 +67,7 @@ module _ (s : State) (bs : List ℕ) (B : Between s bs) (q z : ℕ) (big : large
 
     pub passOver-stores : passOver bs w q ≡ puts (first-puts s z (λ j. w) []) bs
     unfolding passOver first-puts heir-puts heir back-puts
-    passOver-stores = rw (height-one s z (B .layout-1)) (ap (λ (k : ℕ). putAt 4 bs (w + chain-at) (linkWord w k)) after-is)
+    passOver-stores = rw (height-one (s .top) z (B .layout-1)) (ap (λ (k : ℕ). putAt 4 bs (w + chain-at) (linkWord w k)) after-is)
 
     pub leaveFirst-stores : (ws : List ℕ) → vs ≡ ws → leaveFirst bs w q ≡ puts (first-puts s z (λ j. w) ws) bs
     unfolding leaveFirst headBin first-puts heir-puts heir back-puts first
@@ -81,7 +78,7 @@ module _ (s : State) (bs : List ℕ) (B : Between s bs) (q z : ℕ) (big : large
         let x-in : 1 ≤ count x (s .bins z) = omega (arith, ap (count x) is-in, count-cons x q vs, ap (count x) e, count-here x ws) in
         let x0 : x ≢ 0 = listed-nonzero x x-in in
         let none-word : linkWord x 0 ≡ 0 = link-none x in
-        rw (height-one s z (B .layout-1), none-word, nx, after-is) (simp ifs)
+        rw (height-one (s .top) z (B .layout-1), none-word, nx, after-is) (simp ifs)
 
   -- wherever q stands; the one before its bin is what the walk finds
   abbrev pub bin-before : ℕ

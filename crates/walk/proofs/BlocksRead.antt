@@ -10,6 +10,7 @@ use lib.Dec.{eqb}
 use lib.ListN.{length}
 use Rattle.heads.specs.Heads.{headOf}
 use Rattle.heads.specs.declared.head.Head.{Head}
+use Rattle.paper.proofs.reads.HeadWords.{head-of-word}
 use Rattle.paper.proofs.reads.Readings.{head-reads, low-reads, rest-reads}
 use Rattle.paper.proofs.reads.Stands.{Stands}
 use Rattle.paper.proofs.runs.Walk.{In, in-flag, in-left, in-mid, sized-parts, total-append}
@@ -27,20 +28,6 @@ use Rattle.words.specs.Words.{wordAt}
 -- ---- what a block's head is taken apart into
 abbrev pub headFor : Block → ℕ → Head
 headFor (block z k) P = record { size = z; p = eqb P 1; held = eqb (heldBit k) 1 }
-
-heldBit-le : (k : Kind) → heldBit k ≤ 1
-heldBit-le held = omega arith
-heldBit-le free = omega arith
-heldBit-le remainder = omega arith
-
-pub head-of-word : (z : ℕ) (k : Kind) (P : ℕ) → P ≤ 1 → headOf (headWord z k P) ≡ headFor (block z k) P
-unfolding headOf
-head-of-word z k P l =
-    let h = heldBit-le k in
-    let a : (4 * z + 2 * P + heldBit k) / 4 ≡ z = omega arith in
-    let b : (4 * z + 2 * P + heldBit k) / 2 % 2 ≡ P = omega arith in
-    let c : (4 * z + 2 * P + heldBit k) % 2 ≡ heldBit k = omega arith in
-    λ i. record { size = a i; p = eqb (b i) 1; held = eqb (c i) 1 }
 
 pub headFor-size : (b : Block) (P : ℕ) → headFor b P .size ≡ size b
 headFor-size (block z k) P = refl

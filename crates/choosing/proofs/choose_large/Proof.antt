@@ -8,15 +8,29 @@ use Rattle.choosing.proofs.choose_large.Tie as tie
 
 returns : tie.Need-returns
 unfolding chooseLarge
-returns c = rw (← c .before .before .before .find .ensures, when-yes _ _ _ (sym (c .before .before .none .ensures) ∙ c .before .if1 .taken)) (cc)
+returns c =
+    rw (
+      ← c .before .before .before .find .ensures,
+      when-yes _ _ _ (sym (c .before .before .none .ensures) ∙ c .before .if1 .taken),
+    ) (c .low-end .ensures)
 
 returns-2 : tie.Need-returns-2
 unfolding chooseLarge
-returns-2 c = rw (← c .before .before .before .before .find .ensures, when-no _ _ _ (sym (c .before .before .before .none .ensures) ∙ c .before .before .if1 .left), if=-yes _ _ _ _ (sym (c .before .size .ensures) ∙ c .if2 .taken)) (cc)
+returns-2 c =
+    rw (
+      ← c .before .before .before .before .find .ensures,
+      when-no _ _ _ (sym (c .before .before .before .none .ensures) ∙ c .before .before .if1 .left),
+      if=-yes _ _ _ _ (sym (c .before .size .ensures) ∙ c .if2 .taken),
+    )
 
 returns-3 : tie.Need-returns-3
 unfolding chooseLarge
-returns-3 c = rw (← c .before .before .before .before .before .find .ensures, when-no _ _ _ (sym (c .before .before .before .before .none .ensures) ∙ c .before .before .before .if1 .left), if=-no _ _ _ _ (λ e. c .before .if2 .left (c .before .before .size .ensures ∙ e))) (cc)
+returns-3 c =
+    rw (
+      ← c .before .before .before .before .before .find .ensures,
+      when-no _ _ _ (sym (c .before .before .before .before .none .ensures) ∙ c .before .before .before .if1 .left),
+      if=-no _ _ _ _ (λ e. c .before .if2 .left (c .before .before .size .ensures ∙ e)),
+    ) (c .choose-larger .ensures)
 
 pub choose-large-spec : {M : Type 1} → statement M
 choose-large-spec =

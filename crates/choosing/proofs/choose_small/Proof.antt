@@ -8,11 +8,11 @@ use Rattle.choosing.proofs.choose_small.Tie as tie
 
 returns : tie.Need-returns
 unfolding chooseSmall
-returns c = rw (if=-yes _ _ _ _ (sym (c .before .before .field .ensures) ∙ c .before .if1 .taken)) (cc)
+returns c = rw (if=-yes _ _ _ _ (sym (c .before .before .field .ensures) ∙ c .before .if1 .taken)) (c .high-end .ensures)
 
 returns-2 : tie.Need-returns-2
 unfolding chooseSmall
-returns-2 c = rw (if=-no _ _ _ _ (λ e. c .if1 .left (c .before .field .ensures ∙ e))) (cc)
+returns-2 c = rw (if=-no _ _ _ _ (λ e. c .if1 .left (c .before .field .ensures ∙ e)), ← c .before .field .ensures)
 
 pub choose-small-spec : {M : Type 1} → statement M
 choose-small-spec =

@@ -7,11 +7,11 @@ use Rattle.choosing.proofs.high_end.Tie as tie
 
 returns : tie.Need-returns
 unfolding highEnd
-returns c = rw (← c .before .before .remainder .ensures, if<-yes _ _ _ _ (c .if1 .taken)) (cc)
+returns c = rw (← c .before .before .remainder .ensures, if<-yes _ _ _ _ (c .if1 .taken))
 
 returns-2 : tie.Need-returns-2
 unfolding highEnd
-returns-2 c = rw (← c .before .before .remainder .ensures, if<-no _ _ _ _ (c .if1 .left)) (cc)
+returns-2 c = rw (← c .before .before .remainder .ensures, if<-no _ _ _ _ (c .if1 .left))
 
 pub high-end-spec : {M : Type 1} → statement M
 high-end-spec =

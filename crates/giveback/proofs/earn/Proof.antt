@@ -6,7 +6,10 @@ use Rattle.giveback.proofs.earn.Tie as tie
 
 returns : tie.Need-returns
 unfolding earned
-returns c = cc
+returns c =
+    let m1 = c .before .before in
+    let m2 = m1 .before .before .before in
+    rw (m1 .put32 .ensures, m1 .before .plus .ensures, m2 .get32 .ensures)
 
 pub earn-spec : {M : Type 1} → statement M
 earn-spec =

@@ -6,7 +6,9 @@ use Rattle.giveback.proofs.give_back.Tie as tie
 
 returns : tie.Need-returns
 unfolding giveBack
-returns c = cc
+returns c =
+    let m1 = c .before .before .before .before .before .before in
+    rw (c .before .before .earn .ensures, m1 .put-back .ensures)
 
 pub give-back-spec : {M : Type 1} → statement M
 give-back-spec =

@@ -26,7 +26,7 @@ returns-5 c = rw (c .before .before .before .before .before .choice5 .given .1) 
 
 returns-6 : tie.Need-returns-6
 unfolding carryOut
-returns-6 c = rw (c .before .choice6 .given .1) (cc)
+returns-6 c = rw (c .before .choice6 .given .1)
 
 pub carry-out-spec : {M : Type 1} → statement M
 carry-out-spec =

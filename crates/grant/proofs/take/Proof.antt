@@ -6,7 +6,9 @@ use Rattle.grant.proofs.take.Tie as tie
 
 returns : tie.Need-returns
 unfolding take
-returns c = cc
+returns c =
+    let m1 = c .before .before .before .before in
+    rw (← c .before .before .carry-out .ensures, m1 .choose .ensures)
 
 pub take-spec : {M : Type 1} → statement M
 take-spec =

@@ -6,7 +6,7 @@ use Rattle.bins.proofs.chain.find.Tie as tie
 
 returns : tie.Need-returns
 unfolding find
-returns c = cc
+returns c = c .find-from .ensures
 
 pub find-spec : {M : Type 1} → statement M
 find-spec =

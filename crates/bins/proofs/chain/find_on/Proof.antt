@@ -6,7 +6,7 @@ use Rattle.bins.proofs.chain.find_on.Tie as tie
 
 returns : tie.Need-returns
 unfolding findOn
-returns c = cc
+returns c = c .find-from .ensures
 
 pub find-on-spec : {M : Type 1} → statement M
 find-on-spec =

@@ -6,7 +6,7 @@ use Rattle.bins.proofs.chain.linked.Tie as tie
 
 returns : tie.Need-returns
 unfolding linkedAt
-returns c = cc
+returns c = rw (c .follow .ensures, c .before .field .ensures)
 
 pub linked-spec : {M : Type 1} → statement M
 linked-spec =

@@ -6,7 +6,7 @@ use Rattle.bins.proofs.chain.size_of.Tie as tie
 
 returns : tie.Need-returns
 unfolding sizeAt
-returns c = cc
+returns c = rw (c .apart .ensures, c .before .get32 .ensures)
 
 pub size-of-spec : {M : Type 1} → statement M
 size-of-spec =

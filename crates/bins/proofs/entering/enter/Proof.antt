@@ -6,7 +6,9 @@ use Rattle.bins.proofs.entering.enter.Tie as tie
 
 returns : tie.Need-returns
 unfolding enter
-returns c = cc
+returns c =
+    let m1 = c .before .before .before .before .before .before in
+    rw (c .before .before .enter-bin .ensures, m1 .make-free .ensures)
 
 pub enter-spec : {M : Type 1} → statement M
 enter-spec =

@@ -7,15 +7,32 @@ use Rattle.bins.proofs.entering.enter_bin.Tie as tie
 
 returns : tie.Need-returns
 unfolding enterBin enterAt
-returns c = rw (← c .before .before .before .before .before .before .find .ensures, if=-yes _ _ _ _ (c .before .before .before .before .if1 .taken)) (cc)
+returns c =
+    let m1 = c .before .before in
+    let m2 = m1 .before .before .before .before in
+    rw (← m2 .find .ensures, if=-yes _ _ _ _ (m1 .before .before .if1 .taken)) (m1 .enter-only .ensures)
 
 returns-2 : tie.Need-returns-2
 unfolding enterBin enterAt
-returns-2 c = rw (← c .before .before .before .before .before .before .before .before .find .ensures, if=-no _ _ _ _ (c .before .before .before .before .before .before .if1 .left), if=-yes _ _ _ _ (c .before .before .before .before .if2 .taken)) (cc)
+returns-2 c =
+    let m1 = c .before .before in
+    let m2 = m1 .before .before .before .before in
+    rw (
+      ← m2 .before .before .find .ensures,
+      if=-no _ _ _ _ (m2 .if1 .left),
+      if=-yes _ _ _ _ (m1 .before .before .if2 .taken),
+    ) (m1 .enter-second .ensures)
 
 returns-3 : tie.Need-returns-3
 unfolding enterBin enterAt
-returns-3 c = rw (← c .before .before .before .before .before .before .before .before .find .ensures, if=-no _ _ _ _ (c .before .before .before .before .before .before .if1 .left), if=-no _ _ _ _ (c .before .before .before .before .if2 .left)) (cc)
+returns-3 c =
+    let m1 = c .before .before in
+    let m2 = m1 .before .before .before .before in
+    rw (
+      ← m2 .before .before .find .ensures,
+      if=-no _ _ _ _ (m2 .if1 .left),
+      if=-no _ _ _ _ (m1 .before .before .if2 .left),
+    ) (m1 .enter-only2 .ensures)
 
 pub enter-bin-spec : {M : Type 1} → statement M
 enter-bin-spec =

@@ -8,11 +8,23 @@ use Rattle.bins.proofs.leaving.leave.Tie as tie
 
 returns : tie.Need-returns
 unfolding leave
-returns c = rw (if=-no _ _ _ _ (λ e. c .before .before .before .before .if1 .taken (c .before .before .before .before .before .linked .ensures ∙ e))) (cc)
+returns c =
+    let m1 = c .before .before in
+    let m2 = m1 .before .before .before in
+    rw (if=-no _ _ _ _ (λ e. m1 .before .before .if1 .taken (m2 .linked .ensures ∙ e)), ← m2 .linked .ensures) (m1 .leave-later .ensures)
 
 returns-2 : tie.Need-returns-2
 unfolding leave
-returns-2 c = rw (if=-yes _ _ _ _ (sym (c .before .before .before .before .before .before .before .before .linked .ensures) ∙ c .before .before .before .before .before .before .before .if1 .left)) (cc)
+returns-2 c =
+    let m1 = c .before .before in
+    let m2 = m1 .before .before .before in
+    let m3 = m2 .before .before .before in
+    rw (
+      if=-yes _ _ _ _ (sym (m3 .linked .ensures) ∙ m2 .before .before .if1 .left),
+      m1 .leave-first .ensures,
+      m1 .before .before .find .ensures,
+      m2 .size-of .ensures,
+    )
 
 pub leave-spec : {M : Type 1} → statement M
 leave-spec =

@@ -8,11 +8,17 @@ use Rattle.bins.proofs.leaving.leave_first.Tie as tie
 
 returns : tie.Need-returns
 unfolding leaveFirst
-returns c = rw (if=-yes _ _ _ _ (sym (c .before .before .before .before .before .linked .ensures) ∙ c .before .before .before .before .if1 .taken)) (cc)
+returns c =
+    let m1 = c .before .before in
+    let m2 = m1 .before .before .before in
+    rw (if=-yes _ _ _ _ (sym (m2 .linked .ensures) ∙ m1 .before .before .if1 .taken)) (m1 .pass-over .ensures)
 
 returns-2 : tie.Need-returns-2
 unfolding leaveFirst
-returns-2 c = rw (if=-no _ _ _ _ (λ e. c .before .before .before .before .if1 .left (c .before .before .before .before .before .linked .ensures ∙ e))) (cc)
+returns-2 c =
+    let m1 = c .before .before in
+    let m2 = m1 .before .before .before in
+    rw (if=-no _ _ _ _ (λ e. m1 .before .before .if1 .left (m2 .linked .ensures ∙ e)), ← m2 .linked .ensures) (m1 .head-bin .ensures)
 
 pub leave-first-spec : {M : Type 1} → statement M
 leave-first-spec =

@@ -8,11 +8,25 @@ use Rattle.bins.proofs.leaving.leave_later.Tie as tie
 
 returns : tie.Need-returns
 unfolding leaveLater
-returns c = rw (if=-yes _ _ _ _ (sym (c .before .before .before .before .before .linked .ensures) ∙ c .before .before .before .before .if1 .taken)) (cc)
+returns c =
+    let m1 = c .before .before in
+    let m2 = m1 .before .before .before in
+    rw (if=-yes _ _ _ _ (sym (m2 .linked .ensures) ∙ m1 .before .before .if1 .taken)) (m1 .put-field .ensures)
 
 returns-2 : tie.Need-returns-2
 unfolding leaveLater
-returns-2 c = rw (if=-no _ _ _ _ (λ e. c .before .before .before .before .before .before .before .before .before .if1 .left (c .before .before .before .before .before .before .before .before .before .before .linked .ensures ∙ e))) (cc)
+returns-2 c =
+    let m1 = c .before .before in
+    let m2 = m1 .before .before .before .before in
+    let m3 = m2 .before .before .before in
+    rw (
+      if=-no _ _ _ _ (λ e. m3 .if1 .left (m3 .before .linked .ensures ∙ e)),
+      m1 .put-field3 .ensures,
+      m2 .put-field2 .ensures,
+      m2 .before .before .both-ways .ensures .0,
+      m2 .before .before .both-ways .ensures .1,
+      m3 .before .linked .ensures,
+    )
 
 pub leave-later-spec : {M : Type 1} → statement M
 leave-later-spec =

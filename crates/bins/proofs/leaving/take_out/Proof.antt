@@ -1,18 +1,27 @@
 -- bins::take_out meets its contract, by the test on the second block.
-use Rattle.bins.specs.Leave.{usedIn, takeOut}
+use Rattle.bins.specs.Leave.{leaveLater, usedIn, takeOut}
 use Rattle.words.specs.Choice.{if=-yes, if=-no}
-use mathlib.Core.Path.{sym, _∙_}
+use mathlib.Core.Path.{ap, sym, _∙_}
 use borrow.Author.Needs.{needs}
 use Rattle.bins.proofs.leaving.take_out.Statement.{statement}
 use Rattle.bins.proofs.leaving.take_out.Tie as tie
 
 returns : tie.Need-returns
 unfolding usedIn takeOut
-returns c = record { block = rw (if=-yes _ _ _ _ (sym (c .before .before .before .before .before .linked .ensures) ∙ c .before .before .before .before .if1 .taken)) (cc); after = rw (if=-yes _ _ _ _ (sym (c .before .before .before .before .before .linked .ensures) ∙ c .before .before .before .before .if1 .taken)) (cc) }
+returns c =
+    let l = c .before .before .before .before .before .linked .ensures in
+    let e = sym l ∙ c .before .before .before .before .if1 .taken in
+    record { block = sym (if=-yes _ _ _ _ e); after = c .before .before .pass-over .ensures ∙ sym (if=-yes _ _ _ _ e) }
 
 returns-2 : tie.Need-returns-2
 unfolding usedIn takeOut
-returns-2 c = record { block = rw (if=-no _ _ _ _ (λ e. c .before .before .before .before .if1 .left (c .before .before .before .before .before .linked .ensures ∙ e))) (cc); after = rw (if=-no _ _ _ _ (λ e. c .before .before .before .before .if1 .left (c .before .before .before .before .before .linked .ensures ∙ e))) (cc) }
+returns-2 c =
+    let l = c .before .before .before .before .before .linked .ensures in
+    let n = c .before .before .before .before .if1 .left in
+    record {
+      block = l ∙ sym (if=-no _ _ _ _ (λ e. n (l ∙ e)));
+      after = c .before .before .leave-later .ensures ∙ ap (leaveLater _ _) l ∙ sym (if=-no _ _ _ _ (λ e. n (l ∙ e)));
+    }
 
 pub take-out-spec : {M : Type 1} → statement M
 take-out-spec =

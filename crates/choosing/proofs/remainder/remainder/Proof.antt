@@ -6,7 +6,9 @@ use Rattle.choosing.proofs.remainder.remainder.Tie as tie
 
 returns : tie.Need-returns
 unfolding remainder
-returns c = cc
+returns c =
+    let m1 = c .before .before in
+    rw (c .minus .ensures, c .before .get322 .ensures, m1 .get32 .ensures)
 
 pub remainder-spec : {M : Type 1} → statement M
 remainder-spec =

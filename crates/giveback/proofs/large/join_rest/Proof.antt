@@ -6,7 +6,18 @@ use Rattle.giveback.proofs.large.join_rest.Tie as tie
 
 returns : tie.Need-returns
 unfolding joinRest
-returns c = cc
+returns c =
+    let m1 = c .before .before in
+    let m2 = m1 .before .before .before .before .before .before in
+    let m3 = m2 .before .before .before .before .before .before in
+    rw (
+      m1 .put322 .ensures,
+      m1 .before .free-head .ensures,
+      m1 .before .before .minus .ensures,
+      m2 .put32 .ensures,
+      m2 .before .before .get32 .ensures,
+      m3 .leave-below .ensures,
+    )
 
 pub join-rest-spec : {M : Type 1} → statement M
 join-rest-spec =

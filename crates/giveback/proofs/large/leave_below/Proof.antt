@@ -7,11 +7,11 @@ use Rattle.giveback.proofs.large.leave_below.Tie as tie
 
 returns : tie.Need-returns
 unfolding leaveBelow
-returns c = rw (if=-yes _ _ _ _ (c .if1 .taken)) (cc)
+returns c = rw (if=-yes _ _ _ _ (c .if1 .taken))
 
 returns-2 : tie.Need-returns-2
 unfolding leaveBelow
-returns-2 c = rw (if=-no _ _ _ _ (c .before .before .before .before .if1 .left)) (cc)
+returns-2 c = rw (if=-no _ _ _ _ (c .before .before .before .before .if1 .left)) (c .before .before .leave .ensures)
 
 pub leave-below-spec : {M : Type 1} → statement M
 leave-below-spec =

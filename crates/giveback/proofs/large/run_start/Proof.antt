@@ -7,11 +7,20 @@ use Rattle.giveback.proofs.large.run_start.Tie as tie
 
 returns : tie.Need-returns
 unfolding runStart
-returns c = rw (← c .before .before .get32 .ensures, ← c .before .apart .ensures, when-yes _ _ _ (c .if1 .taken)) (cc)
+returns c = rw (← c .before .before .get32 .ensures, ← c .before .apart .ensures, when-yes _ _ _ (c .if1 .taken))
 
 returns-2 : tie.Need-returns-2
 unfolding runStart
-returns-2 c = rw (← c .before .before .before .before .before .before .get32 .ensures, ← c .before .before .before .before .before .apart .ensures, when-no _ _ _ (c .before .before .before .before .if1 .left)) (cc)
+returns-2 c =
+    rw (
+      ← c .before .before .before .before .before .before .get32 .ensures,
+      ← c .before .before .before .before .before .apart .ensures,
+      when-no _ _ _ (c .before .before .before .before .if1 .left),
+      c .minus2 .ensures,
+      c .before .apart2 .ensures,
+      c .before .before .get322 .ensures,
+      c .before .before .before .minus .ensures,
+    )
 
 pub run-start-spec : {M : Type 1} → statement M
 run-start-spec =

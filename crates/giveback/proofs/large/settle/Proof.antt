@@ -6,7 +6,9 @@ use Rattle.giveback.proofs.large.settle.Tie as tie
 
 returns : tie.Need-returns
 unfolding settle
-returns c = cc
+returns c =
+    let m1 = c .before .before .before in
+    rw (c .before .before .enter .ensures, m1 .minus .ensures)
 
 pub settle-spec : {M : Type 1} → statement M
 settle-spec =

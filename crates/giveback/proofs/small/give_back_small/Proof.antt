@@ -6,7 +6,12 @@ use Rattle.giveback.proofs.small.give_back_small.Tie as tie
 
 returns : tie.Need-returns
 unfolding giveBackSmall
-returns c = cc
+returns c =
+    let m1 = c .before .before in
+    let m2 = m1 .before .before .before .before in
+    let m3 = m2 .before .before .before .before in
+    let m4 = m3 .before .before .before in
+    rw (m1 .put-field2 .ensures, m2 .put-field .ensures, m3 .put32 .ensures, m3 .before .free-head .ensures, m4 .field .ensures)
 
 pub give-back-small-spec : {M : Type 1} → statement M
 give-back-small-spec =

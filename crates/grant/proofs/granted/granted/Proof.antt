@@ -6,7 +6,10 @@ use Rattle.grant.proofs.granted.granted.Tie as tie
 
 returns : tie.Need-returns
 unfolding granted spent
-returns c = cc
+returns c =
+    let m1 = c .before .before .before in
+    let m2 = m1 .before .before .before in
+    rw (c .plus .ensures, m1 .put32 .ensures, m1 .before .minus .ensures, m2 .get32 .ensures)
 
 pub granted-spec : {M : Type 1} → statement M
 granted-spec =
