@@ -3,7 +3,7 @@
 use mathlib.Core.List.{List, [], _∷_}
 use mathlib.Core.Logic.{inl, inr}
 use mathlib.Core.Path.{_∙_, _≡_, ap, refl, subst, sym}
-use Prim.Native.Nat.{_%_, _*_, _+_, _/_, _<_, _≤_, suc, zero, ℕ}
+use Prim.Native.Nat.{_+_, _/_, _<_, _≤_, suc, zero, ℕ}
 use native.Mathlib.Nat.{add-zero}
 use native.Mathlib.Omega.{arith}
 use lib.Dec.{eqb}
@@ -14,8 +14,8 @@ use Rattle.paper.proofs.reads.HeadWords.{head-of-word}
 use Rattle.paper.proofs.reads.Readings.{head-reads, low-reads, rest-reads}
 use Rattle.paper.proofs.reads.Stands.{Stands}
 use Rattle.paper.proofs.runs.Walk.{In, in-flag, in-left, in-mid, sized-parts, total-append}
-use Rattle.paper.specs.Blocks.{Block, Kind, State, block, blocks, free, held, remainder, size, total}
-use Rattle.paper.specs.Governed.{flagAbove, headWord, heldBit}
+use Rattle.paper.specs.Blocks.{Block, State, block, blocks, remainder, size, total}
+use Rattle.paper.specs.Governed.{flagAbove, heldBit}
 use Rattle.paper.specs.Granting.{E, R}
 use Rattle.paper.specs.Layout.{blocks-at, end-at, start-at}
 use Rattle.paper.specs.Runs.{under}

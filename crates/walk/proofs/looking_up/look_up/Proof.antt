@@ -7,7 +7,7 @@ use Rattle.walk.proofs.looking_up.look_up.Tie as tie
 
 returns : tie.Need-returns
 unfolding model.lookUp
-returns c = rw (if<-yes _ _ _ _ (c .if1 .taken)) (cc)
+returns c = rw (if<-yes _ _ _ _ (c .if1 .taken))
 
 returns-2 : tie.Need-returns-2
 unfolding model.lookUp
@@ -16,7 +16,7 @@ returns-2 c =
       if<-no _ _ _ _ (c .before .before .before .if1 .left),
       ← c .before .before .get32 .ensures,
       if<-yes _ _ _ _ (c .before .if2 .taken),
-    ) (cc)
+    ) (c .block-at .ensures)
 
 returns-3 : tie.Need-returns-3
 unfolding model.lookUp
@@ -27,7 +27,8 @@ returns-3 c =
       if<-no _ _ _ _ (c .before .before .before .if2 .left),
       ← c .before .before .get322 .ensures,
       if<-yes _ _ _ _ (c .before .if3 .taken),
-    ) (cc)
+      c .minus .ensures,
+    )
 
 returns-4 : tie.Need-returns-4
 unfolding model.lookUp
@@ -38,7 +39,7 @@ returns-4 c =
       if<-no _ _ _ _ (c .before .before .before .if2 .left),
       ← c .before .before .get322 .ensures,
       if<-no _ _ _ _ (c .before .if3 .left),
-    ) (cc)
+    ) (c .block-at2 .ensures)
 
 pub look-up-spec : {M : Type 1} → statement M
 look-up-spec =
