@@ -6,7 +6,7 @@ use Rattle.serving.proofs.ask.Tie as tie
 
 returns : tie.Need-returns
 unfolding model.ask
-returns c = rw (← c .before .before .before .look-up .ensures, ← c .before .before .held-there .ensures, c .enum-told .given .1) (cc)
+returns c = rw (← c .before .before .before .look-up .ensures, ← c .before .before .held-there .ensures, c .enum-told .given .1)
 
 returns-2 : tie.Need-returns-2
 unfolding model.ask
@@ -15,7 +15,8 @@ returns-2 c =
       ← c .before .before .before .before .before .look-up .ensures,
       ← c .before .before .before .before .held-there .ensures,
       c .before .before .found .given .1,
-    ) (cc)
+      c .minus .ensures,
+    )
 
 pub ask-spec : {M : Type 1} → statement M
 ask-spec =

@@ -14,14 +14,14 @@ returns : tie.Need-returns
 unfolding model.classCount
 returns c =
     let n : length (now (c .before .before .before .args .counts)) ≢ 53 = omega (arith, c .if1 .taken) in
-    rw (if=-no _ _ _ _ n) (cc)
+    rw (if=-no _ _ _ _ n)
 
 returns-2 : tie.Need-returns-2
 unfolding model.classCount
 returns-2 c =
     let e : length (now (c .before .before .before .before .before .before .before .args .counts)) ≡ 53 =
     omega (arith, c .before .before .before .before .if1 .left) in
-    rw (if=-yes _ _ _ _ e, ← c .before .before .count-classes .ensures) (cc)
+    rw (if=-yes _ _ _ _ e, ← c .before .before .count-classes .ensures)
 
 pub class-count-spec : {M : Type 1} → statement M
 class-count-spec = tie.close (tie.spec returns (λ c κs. search needs) (λ c. search needs) returns-2)

@@ -6,7 +6,7 @@ use Rattle.serving.proofs.give_back.Tie as tie
 
 returns : tie.Need-returns
 unfolding model.giveBack
-returns c = rw (← c .before .before .before .look-up .ensures, ← c .before .before .held-there .ensures, c .enum-told .given .1) (cc)
+returns c = rw (← c .before .before .before .look-up .ensures, ← c .before .before .held-there .ensures, c .enum-told .given .1)
 
 returns-2 : tie.Need-returns-2
 unfolding model.giveBack
@@ -15,7 +15,10 @@ returns-2 c =
       ← c .before .before .before .before .before .before .before .before .before .before .look-up .ensures,
       ← c .before .before .before .before .before .before .before .before .before .held-there .ensures,
       c .before .before .before .before .before .before .before .found .given .1,
-    ) (cc)
+      c .minus2 .ensures,
+      c .before .before .before .give-back .ensures,
+      c .before .before .before .before .minus .ensures,
+    )
 
 pub give-back-spec : {M : Type 1} → statement M
 give-back-spec =

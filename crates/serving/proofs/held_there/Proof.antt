@@ -36,14 +36,14 @@ unfolding model.heldThere
 returns-2 c =
     let h = c .before .before .found .given in
     let n : c .before .before .before .before .args .offset ≢ h .0 .0 + 4 = omega (arith, c .if1 .taken) in
-    rw (h .1, if=-no _ _ _ _ n) (cc)
+    rw (h .1, if=-no _ _ _ _ n)
 
 returns-3 : tie.Need-returns-3
 unfolding model.heldThere
 returns-3 c =
     let h = c .before .before .found .given in
     let e : c .before .before .before .before .args .offset ≡ h .0 .0 + 4 = omega (arith, c .if1 .left) in
-    rw (h .1, if=-yes _ _ _ _ e) (cc)
+    rw (h .1, if=-yes _ _ _ _ e)
 
 pub held-there-spec : {M : Type 1} → statement M
 held-there-spec =
