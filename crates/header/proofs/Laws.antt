@@ -13,7 +13,7 @@ use Rattle.words.specs.Words.{wordAt}
 use Rattle.heads.specs.Heads.{freeHead}
 use Rattle.heads.specs.Links.{linkWord, followed}
 use Rattle.guards.specs.Tests.{pass}
-use Rattle.paper.specs.Layout.{blocks-at}
+use Rattle.paper.specs.Layout.{blocks-at, chain-at, false-block, false-word-at, level-at}
 use Rattle.header.specs.Header.{cleared, rest-between, zero-tests, false-tests}
 use Rattle.guards.proofs.Guards.{guard-inv, guard-yes, no-both, pass-is}
 
@@ -81,14 +81,15 @@ rest-is s a b {w} {h} after least room inside a8 b8 ew eh =
     (λ k. (omega arith, (omega arith, (omega arith, (a8, (b8, (sym ew ∙ eqb-true _ _ k ∙ eh, tt)))))))
     (λ t. eq-eqb _ _ (ew ∙ t .1 .1 .1 .1 .1 .0 ∙ sym eh))
 
-pub zeros-is : (s : List ℕ) → true ≡ cleared s 12 8 4 → Clearing s 3 4 96 0 108 → true ≡ cleared s 12 4 112 → true ≡ pass (zero-tests s)
+pub zeros-is : (s : List ℕ) → true ≡ cleared s 12 8 4 → Clearing s 3 4 false-block 0 (false-block + level-at) → true ≡ cleared s 12 4 (false-block + 16)
+    → true ≡ pass (zero-tests s)
 zeros-is s a b c = pass-is (zero-tests s) true (λ h. (sym a, (sym (is-cleared b refl), (sym c, tt)))) (λ t. refl)
 
-pub false-is : (s : List ℕ) {w1 w2 w3 w4 : ℕ} {b e : Bool} → 168 ≤ length s → w1 ≡ wordAt 4 s 8 → w1 ≡ 96 → w2 ≡ wordAt 4 s 108 → w2 ≡ 1
-    → w3 ≡ wordAt 4 s 160 → b ≡ eqb w3 (linkWord 96 (followed 96 w3)) → not b ≡ false → w4 ≡ wordAt 4 s 164 → w4 ≡ 0
-    → e ≡ pass (zero-tests s) → e ≡ pass (false-tests s)
+pub false-is : (s : List ℕ) {w1 w2 w3 w4 : ℕ} {b e : Bool} → blocks-at ≤ length s → w1 ≡ wordAt 4 s false-word-at → w1 ≡ false-block
+    → w2 ≡ wordAt 4 s (false-block + level-at) → w2 ≡ 1 → w3 ≡ wordAt 4 s (false-block + chain-at) → b ≡ eqb w3 (linkWord false-block (followed false-block w3))
+    → not b ≡ false → w4 ≡ wordAt 4 s (false-block + chain-at + 4) → w4 ≡ 0 → e ≡ pass (zero-tests s) → e ≡ pass (false-tests s)
 false-is s {e = e} r a1 b1 a2 b2 a3 a3' b3 a4 b4 a5 =
     pass-is (false-tests s) e
     (λ h. let g = guard-inv (zero-tests s) false true true no-both (sym a5 ∙ h) .0 in
-    (sym a1 ∙ b1, (sym a2 ∙ b2, (link-true 96 a3' a3 (not-false _ b3), (sym a4 ∙ b4, (g .0, (g .1 .0, (g .1 .1 .0, (omega arith, tt)))))))))
+    (sym a1 ∙ b1, (sym a2 ∙ b2, (link-true false-block a3' a3 (not-false _ b3), (sym a4 ∙ b4, (g .0, (g .1 .0, (g .1 .1 .0, (omega arith, tt)))))))))
     (λ t. let z = t .1 .1 .1 .1 in a5 ∙ guard-yes (zero-tests s) false true (z .0, (z .1 .0, (z .1 .1 .0, tt))))

@@ -6,6 +6,7 @@ use Rattle.guards.proofs.Guards.{off, pass-no}
 use Rattle.header.proofs.Laws.{false-is, true-link}
 use Rattle.header.proofs.false_block_ok.Statement.{statement}
 use Rattle.header.proofs.false_block_ok.Tie as tie
+use Rattle.paper.specs.Layout.{false-block}
 
 pub false-block-ok-spec : {M : Type 1} → statement M
 false-block-ok-spec =
@@ -22,7 +23,7 @@ false-block-ok-spec =
     (λ t. omega (arith, (c .before .field .ensures), c .if3 .taken, t .1 .0)))
     (λ c κs. search needs) (λ c κs. search needs)
     (λ c. pass-no (false-tests (c .before .before .before .before .before .before .before .before .before .args .pool .now))
-    (λ t. off (true-link 96 (c .before .link-ok .ensures) (c .before .before .field2 .ensures) (t .1 .1 .0)) (c .if4 .taken)))
+    (λ t. off (true-link false-block (c .before .link-ok .ensures) (c .before .before .field2 .ensures) (t .1 .1 .0)) (c .if4 .taken)))
     (λ c. search needs) (λ c κs. search needs)
     (λ c. pass-no (false-tests (c .before .before .before .before .before .before .before .before .before .before .before .args .pool .now))
     (λ t. omega (arith, (c .before .field3 .ensures), c .if5 .taken, t .1 .1 .1 .0)))
