@@ -1,6 +1,6 @@
 -- The blocks from p to e, read by their heads; each free one is marked, counted and summed.
 use mathlib.Core.List.{List, [], _∷_}
-use Prim.Native.Nat.{ℕ, zero, suc, _+_, _-_, _*_, _/_, _%_}
+use Prim.Native.Nat.{ℕ, zero, suc, _+_, _-_, _*_, _%_}
 use Rattle.words.specs.Choice.{if=, if<}
 use Rattle.words.specs.Words.{wordAt}
 use Rattle.heads.specs.Heads.{flagsAt, flagsOf, free-flags, held-flags, sizeAt, sizeOf}
@@ -34,9 +34,6 @@ module _ (bs : List ℕ) where
   -- only a large block has a footer
   abbrev pub footOf : ℕ → ℕ → ℕ
   footOf w p = if< (sizeOf w) large w (wordAt 4 bs (p + (sizeOf w - 4)))
-
-  abbrev pub footAt : ℕ → ℕ
-  footAt p = footOf (wordAt 4 bs p) p
 
   abbrev pub free-at : ℕ → ℕ → ℕ → List Test
   free-at w due p = free-words w (footOf w p) due
