@@ -16,6 +16,7 @@ use Rattle.lists.specs.Lists.{Left, chain, first-tests, follow, if-left,
 use Rattle.marks.specs.MarkSets.{bitMarks, markAt}
 use Rattle.guards.specs.Tests.{Test, less, pass}
 use Rattle.marks.specs.Marks.{putBitAt}
+use Rattle.paper.specs.Layout.{chain-at, false-block}
 use Rattle.words.specs.Choice.{by=, if=-no, if=-yes}
 use Rattle.words.specs.Words.{wordAt}
 use Rattle.lists.specs.declared.Left.{Left as Answer}
@@ -103,7 +104,7 @@ module _ {s m₀ : List ℕ} {k f0 : ℕ} {m : List ℕ} {n y f : ℕ} (g : Chai
           follow-lt (large-tests s z) (nextLarge s) n m 0 f (r .left) m' ne
           (sym ex ∙ ap (λ (c : Bool). pick-left c (r .left) m') (not-false (r .ok) h))
 
-      pub chain-on : {t u : ℕ} → not (r .ok) ≡ false → length m' ≡ length m → u ≡ wordAt 4 s (f + 64) → t ≡ followed f u → t < 4294967296
+      pub chain-on : {t u : ℕ} → not (r .ok) ≡ false → length m' ≡ length m → u ≡ wordAt 4 s (f + chain-at) → t ≡ followed f u → t < 4294967296
           → Chained s m₀ k f0 m' (r .left) z t
       chain-on {t} j lm eu et ts =
           record {
@@ -119,15 +120,15 @@ module _ {s m₀ : List ℕ} {k f0 : ℕ} {m : List ℕ} {n y f : ℕ} (g : Chai
 
 module _ (s m m' : List ℕ) (k : ℕ) (r : Answer) (e : to-left r m' ≡ smalls bitMarks s 8 8 k m) where
   abbrev on-chain : Left (List ℕ) → Bool
-  on-chain v = if-left v false (λ k' ms'. chain bitMarks s (suc k') k' ms' 64 (nextBin s 96))
+  on-chain v = if-left v false (λ k' ms'. chain bitMarks s (suc k') k' ms' 64 (nextBin s false-block))
 
   pub lists-lost : not (r .ok) ≡ true → false ≡ lists bitMarks s k m
   unfolding lists
   lists-lost h = sym (ap on-chain (sym e) ∙ ap (λ (c : Bool). on-chain (pick-left c (r .left) m')) (not-true (r .ok) h))
 
-  pub lists-on : {w f : ℕ} {b : Bool} → not (r .ok) ≡ false → w ≡ wordAt 4 s 160 → f ≡ followed 96 w
+  pub lists-on : {w f : ℕ} {b : Bool} → not (r .ok) ≡ false → w ≡ wordAt 4 s (false-block + chain-at) → f ≡ followed false-block w
       → b ≡ chain bitMarks s (suc (r .left)) (r .left) m' 64 f → b ≡ lists bitMarks s k m
   unfolding lists
   lists-on h ew ef eb =
-      eb ∙ ap (chain bitMarks s (suc (r .left)) (r .left) m' 64) (ef ∙ ap (followed 96) ew)
+      eb ∙ ap (chain bitMarks s (suc (r .left)) (r .left) m' 64) (ef ∙ ap (followed false-block) ew)
       ∙ sym (ap on-chain (sym e) ∙ ap (λ (c : Bool). on-chain (pick-left c (r .left) m')) (not-false (r .ok) h))

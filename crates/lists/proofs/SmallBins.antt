@@ -9,13 +9,14 @@ use borrow.Author.Tests.{not-false, not-true}
 use Rattle.lists.specs.Contract.{pick-left, to-left}
 use Rattle.lists.specs.Lists.{Left, follow, if-left, left, lost, nextSmall, small-tests, smalls}
 use Rattle.marks.specs.MarkSets.{bitMarks}
+use Rattle.paper.specs.Layout.{large, small-bins}
 use Rattle.words.specs.Words.{wordAt}
 use Rattle.lists.specs.declared.Left.{Left as Answer}
 
 pub record Bins (s m₀ : List ℕ) (k : ℕ) (m : List ℕ) (n z : ℕ) : Type 0 where
   pub long : length m ≡ length m₀
   pub fuel : ℕ
-  pub due : z + 8 * fuel ≡ 72
+  pub due : z + 8 * fuel ≡ large
   pub all : smalls bitMarks s 8 8 k m₀ ≡ smalls bitMarks s fuel z n m
 
 pub bins-start : (s m : List ℕ) (k : ℕ) → Bins s m k m k 8
@@ -26,7 +27,7 @@ unfolding smalls
 bins-end s m zero z n e = refl
 bins-end s m (suc c) z n e = absurd (omega arith)
 
-bins-next : (s m : List ℕ) (c z n f : ℕ) → f ≡ wordAt 4 s (z + 24) → (x : Left (List ℕ)) → x ≡ follow bitMarks (small-tests s z) (nextSmall s) n m 0 f
+bins-next : (s m : List ℕ) (c z n f : ℕ) → f ≡ wordAt 4 s (z + small-bins) → (x : Left (List ℕ)) → x ≡ follow bitMarks (small-tests s z) (nextSmall s) n m 0 f
     → smalls bitMarks s (suc c) z n m ≡ if-left x lost (λ k' ms'. smalls bitMarks s c (z + 8) k' ms')
 unfolding smalls
 bins-next s m c z n f e x h =
@@ -34,10 +35,10 @@ bins-next s m c z n f e x h =
     (ap (follow bitMarks (small-tests s z) (nextSmall s) n m 0) (sym e) ∙ sym h)
 
 module _ {s m₀ : List ℕ} {k : ℕ} {m : List ℕ} {n z : ℕ} (g : Bins s m₀ k m n z) where
-  pub bins-done : z ≡ 72 → left n m ≡ smalls bitMarks s 8 8 k m₀
+  pub bins-done : z ≡ large → left n m ≡ smalls bitMarks s 8 8 k m₀
   bins-done e = sym (g .all ∙ bins-end s m (g .fuel) z n (omega (arith, g .due)))
 
-  module _ (ne : z ≡ 72 → ⊥) {f : ℕ} (ef : f ≡ wordAt 4 s (z + 24)) (r : Answer) (m' : List ℕ)
+  module _ (ne : z ≡ large → ⊥) {f : ℕ} (ef : f ≡ wordAt 4 s (z + small-bins)) (r : Answer) (m' : List ℕ)
       (ex : to-left r m' ≡ follow bitMarks (small-tests s z) (nextSmall s) n m 0 f) where
     abbrev on : Left (List ℕ) → Left (List ℕ)
     on v = if-left v lost (λ k' ms'. smalls bitMarks s (g .fuel - 1) (z + 8) k' ms')

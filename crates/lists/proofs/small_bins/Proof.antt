@@ -4,12 +4,13 @@ use borrow.Author.Needs.{needs}
 use Rattle.lists.proofs.SmallBins.{Bins, bins-start, bins-done, bins-lost, bins-on}
 use Rattle.lists.proofs.small_bins.Statement.{statement}
 use Rattle.lists.proofs.small_bins.Tie as tie
+use Rattle.paper.specs.Layout.{large}
 
 abbrev Inv-loop : tie.InvT-loop
 Inv-loop pool m₀ k left₀ z₀ m left z = Bins pool m₀ k m left z
 
 abbrev μ-loop : tie.MeasureT-loop
-μ-loop pool m₀ k left₀ z₀ m left z = 72 - z
+μ-loop pool m₀ k left₀ z₀ m left z = large - z
 
 lose : tie.Need-returns Inv-loop μ-loop
 lose c =
