@@ -14,7 +14,7 @@ use Rattle.guards.proofs.Guards.{guard-yes}
 use Rattle.accept.proofs.MarkLists.{linked-from, listMarks, next-in, prev-in}
 use Rattle.accept.proofs.Passing.{chain-yes, smalls-yes}
 use Rattle.accept.proofs.Scanning.{Facts, Foot, Run, count-push, push, scan-yes}
-use Rattle.header.specs.Header.{cleared, false-tests, rest-tests}
+use Rattle.header.specs.Header.{E, R, cleared, false-tests, rest-tests}
 use Rattle.runs.specs.Runs.{if-seen, Scanned, scan, seen, stray}
 use Rattle.heads.specs.Heads.{sizeAt}
 use Rattle.accept.specs.Inspect.{inspect, scanned, size-tests}
@@ -31,6 +31,7 @@ use Rattle.paper.proofs.runs.Walk.{In, flagPast, freeSum-append, freeSum-le, in
 use Rattle.paper.specs.Bins.{count, first, seek}
 use Rattle.paper.specs.Blocks.{Block, Kind, State, block, blocks, end, free, freeSum, held, remainder, total}
 use Rattle.paper.specs.Governed.{above, headWord, headerWord, height, index, link, reach, sheet}
+use Rattle.paper.specs.Layout.{blocks-at, chain-at, false-block, false-word-at, free-word-at, level-at, next-at, previous-at}
 use Rattle.paper.specs.Sheet.{Holds}
 use Rattle.paper.specs.Sound.{High, Low, Sized, WellFormed, freeAt}
 use Rattle.words.specs.Choice.{by<, by=, if<, if<-no, if<-yes, if=, if=-no, if=-yes}
@@ -69,8 +70,8 @@ module _ (bs : List ℕ) (s : State) (W : WellFormed s) (l : length bs ≡ end s
   abbrev n : ℕ
   n = end s
 
-  abbrev r0 : ℕ
-  r0 = 168 + total (s .low)
+  abbrev rest-at : ℕ
+  rest-at = blocks-at + total (s .low)
 
   sized-low : Sized (s .low)
   sized-low = sized-parts (s .low) (block (s .rest) remainder ∷ s .high) (W .sized) .0
@@ -78,63 +79,63 @@ module _ (bs : List ℕ) (s : State) (W : WellFormed s) (l : length bs ≡ end s
   sized-past : Sized (block (s .rest) remainder ∷ s .high)
   sized-past = sized-parts (s .low) (block (s .rest) remainder ∷ s .high) (W .sized) .1
 
-  runL : Run bs 0 1 (s .low)
-  runL = low-run (s .low) bs (W .low-ok) sized-low
+  low-is-run : Run bs 0 1 (s .low)
+  low-is-run = low-run (s .low) bs (W .low-ok) sized-low
 
-  runH : Run bs 1 1 (s .high)
-  runH = high-run (s .high) bs (W .high-ok) (sized-past .1)
+  high-is-run : Run bs 1 1 (s .high)
+  high-is-run = high-run (s .high) bs (W .high-ok) (sized-past .1)
 
-  ends : r0 + s .rest + total (s .high) ≡ n
+  ends : rest-at + s .rest + total (s .high) ≡ n
   ends = omega (arith, total-append (s .low) (block (s .rest) remainder ∷ s .high))
 
-  foots : (q z : ℕ) (k : Kind) (P : ℕ) → In (blocks s) 168 1 q (block z k) P → Foot bs q z k P
+  foots : (q z : ℕ) (k : Kind) (P : ℕ) → In (blocks s) blocks-at 1 q (block z k) P → Foot bs q z k P
   foots q z held P i = tt
   foots q z remainder P i = tt
   foots q z free P i = λ m.
-      let hi = in-high (blocks s) 168 1 q (block z free) P i in
-      let al = in-aligned (blocks s) 168 1 q (block z free) P (W .sized) refl i in
-      let sol = in-sized (blocks s) 168 1 q (block z free) P (W .sized) i in
-      let fl = in-flag (blocks s) 168 1 q (block z free) P (omega arith) i in
+      let hi = in-high (blocks s) blocks-at 1 q (block z free) P i in
+      let al = in-aligned (blocks s) blocks-at 1 q (block z free) P (W .sized) refl i in
+      let sol = in-sized (blocks s) blocks-at 1 q (block z free) P (W .sized) i in
+      let fl = in-flag (blocks s) blocks-at 1 q (block z free) P (omega arith) i in
       reads bs s W l h (q + (z - 4)) (headWord z free P) (omega arith) (omega arith) (omega (arith, W .fits)) (at-foot s q z P i m)
 
-  facts : Facts bs (blocks s) 168 1
+  facts : Facts bs (blocks s) blocks-at 1
   facts q z k P i = (head-reads bs s W l h q z k P i, foots q z k P i)
 
-  factsL : Facts bs (s .low) 168 1
-  factsL q z k P i = facts q z k P (in-left (s .low) (block (s .rest) remainder ∷ s .high) 168 1 q (block z k) P i)
+  low-facts : Facts bs (s .low) blocks-at 1
+  low-facts q z k P i = facts q z k P (in-left (s .low) (block (s .rest) remainder ∷ s .high) blocks-at 1 q (block z k) P i)
 
-  factsH : Facts bs (s .high) (r0 + s .rest) 1
-  factsH q z k P i = facts q z k P (in-mid (s .low) (block (s .rest) remainder ∷ s .high) 168 1 q (block z k) P (inr i))
+  high-facts : Facts bs (s .high) (rest-at + s .rest) 1
+  high-facts q z k P i = facts q z k P (in-mid (s .low) (block (s .rest) remainder ∷ s .high) blocks-at 1 q (block z k) P (inr i))
 
-  rest-head : wordAt 4 bs r0 ≡ 4 * s .rest + 2
+  rest-head : wordAt 4 bs rest-at ≡ 4 * s .rest + 2
   rest-head =
-      head-reads bs s W l h r0 (s .rest) remainder (flagPast 1 (s .low))
-      (in-mid (s .low) (block (s .rest) remainder ∷ s .high) 168 1 r0 (block (s .rest) remainder) (flagPast 1 (s .low)) (inl (refl, refl, refl)))
-      ∙ omega (arith, run-after bs 0 1 (s .low) runL)
+      head-reads bs s W l h rest-at (s .rest) remainder (flagPast 1 (s .low))
+      (in-mid (s .low) (block (s .rest) remainder ∷ s .high) blocks-at 1 rest-at (block (s .rest) remainder) (flagPast 1 (s .low)) (inl (refl, refl, refl)))
+      ∙ omega (arith, run-after bs 0 1 (s .low) low-is-run)
 
-  is-R : wordAt 4 bs 16 ≡ r0
+  is-R : R bs ≡ rest-at
   is-R = low-reads bs s W l h
 
-  is-E : wordAt 4 bs 24 ≡ r0 + s .rest
+  is-E : E bs ≡ rest-at + s .rest
   is-E = rest-reads bs s W l h
 
   -- ---- the marks and the sum
   marks : List ℕ
-  marks = push (s .high) (r0 + s .rest) (push (s .low) 168 [])
+  marks = push (s .high) (rest-at + s .rest) (push (s .low) blocks-at [])
 
   is-scanned : scanned listMarks bs ≡ seen (length marks) marks (freeSum (s .low) + freeSum (s .high))
   unfolding scanned marks
   is-scanned =
-      ap (λ (m : Scanned (List ℕ)). if-seen m stray (λ n ms sum. scan listMarks bs (suc (length bs)) 1 (length bs) (wordAt 4 bs 24) 3 n ms sum))
-      (scan-yes bs (s .low) (suc (wordAt 4 bs 16)) 0 (wordAt 4 bs 16) 168 1 0 [] 0 (omega arith) (omega arith) refl (omega (arith, is-R))
-      (sym is-R) runL factsL)
-      ∙ ap (λ (e : ℕ). scan listMarks bs (suc (length bs)) 1 (length bs) e 3 (length (push (s .low) 168 [])) (push (s .low) 168 [])
+      ap (λ (m : Scanned (List ℕ)). if-seen m stray (λ n ms sum. scan listMarks bs (suc (length bs)) 1 (length bs) (E bs) 3 n ms sum))
+      (scan-yes bs (s .low) (suc (R bs)) 0 (R bs) blocks-at 1 0 [] 0 (omega arith) (omega arith) refl (omega (arith, is-R))
+      (sym is-R) low-is-run low-facts)
+      ∙ ap (λ (e : ℕ). scan listMarks bs (suc (length bs)) 1 (length bs) e 3 (length (push (s .low) blocks-at [])) (push (s .low) blocks-at [])
       (0 + freeSum (s .low))) is-E
-      ∙ scan-yes bs (s .high) (suc (length bs)) 1 (length bs) (r0 + s .rest) 1 (length (push (s .low) 168 [])) (push (s .low) 168 [])
-      (0 + freeSum (s .low)) (omega arith) (omega arith) refl (omega (arith, ends)) (ends ∙ sym l) runH factsH
-      ∙ ap (seen (length (push (s .high) (r0 + s .rest) (push (s .low) 168 []))) (push (s .high) (r0 + s .rest) (push (s .low) 168 []))) (omega arith)
+      ∙ scan-yes bs (s .high) (suc (length bs)) 1 (length bs) (rest-at + s .rest) 1 (length (push (s .low) blocks-at [])) (push (s .low) blocks-at [])
+      (0 + freeSum (s .low)) (omega arith) (omega arith) refl (omega (arith, ends)) (ends ∙ sym l) high-is-run high-facts
+      ∙ ap (seen (length marks) marks) (omega arith)
 
-  free-word : wordAt 4 bs 0 ≡ freeSum (s .low) + freeSum (s .high) + s .rest - 4
+  free-word : wordAt 4 bs free-word-at ≡ freeSum (s .low) + freeSum (s .high) + s .rest - 4
   unfolding headerWord if=
   free-word =
       header-reads bs s W l h 0 (omega arith) (omega (arith, W .fits, freeSum-le (blocks s)))
@@ -143,14 +144,14 @@ module _ (bs : List ℕ) (s : State) (W : WellFormed s) (l : length bs ≡ end s
   is-marked : (x : ℕ) → count x marks ≡ count x (s .bins (sizeAt bs x))
   unfolding marks freeAt
   is-marked x =
-      count-push bs (s .high) (r0 + s .rest) 1 (push (s .low) 168 []) x (omega arith) factsH
+      count-push bs (s .high) (rest-at + s .rest) 1 (push (s .low) blocks-at []) x (omega arith) high-facts
       ∙ omega (
         arith,
-        count-push bs (s .low) 168 1 [] x (omega arith) factsL,
+        count-push bs (s .low) blocks-at 1 [] x (omega arith) low-facts,
         count-nil x,
         W .listed (sizeAt bs x) x,
         freeAt-append (s .low)
-            (block (s .rest) remainder ∷ s .high) 168 (sizeAt bs x) x,
+            (block (s .rest) remainder ∷ s .high) blocks-at (sizeAt bs x) x,
       )
 
   -- ---- the bins
@@ -158,19 +159,19 @@ module _ (bs : List ℕ) (s : State) (W : WellFormed s) (l : length bs ≡ end s
   sizes z x o =
       let st = start-of bs s W l h z x o in
       let f = loose s W .found z x o in
-      let fl = in-flag (blocks s) 168 1 x (block z free) (f .0) (omega arith) (f .1) in
+      let fl = in-flag (blocks s) blocks-at 1 x (block z free) (f .0) (omega arith) (f .1) in
       let hd = head-reads bs s W l h x z free (f .0) (f .1) in
       (omega arith, st .3, st .4, omega (arith, st .5))
 
-  lkS : (z : ℕ) → z ≤ 64 → LinkedS bs z (s .bins z)
-  lkS z z64 =
+  linked-small : (z : ℕ) → z ≤ 64 → LinkedS bs z (s .bins z)
+  linked-small z z64 =
       linked-from (small-tests bs z) (nextSmall bs) (s .bins z) 0 (loose s W .once z) (no-zero bs s W l h z)
       (λ q v e. (sizes z q (prev-in 0 (s .bins z) q v e) .0, tt))
       (λ q v e. let r = next-reads bs s W l h z q (next-in (s .bins z) q v e) in
       let e' : some v ≡ some (r .0) = sym e ∙ r .1 in let k : r .0 ≡ v = cc in r .4 (omega arith) ∙ k)
 
-  lkL : (z : ℕ) → 64 < z → LinkedL bs z (s .bins z)
-  lkL z z64 =
+  linked-large : (z : ℕ) → 64 < z → LinkedL bs z (s .bins z)
+  linked-large z z64 =
       linked-from (large-tests bs z) (nextLarge bs) (s .bins z) 0 (loose s W .once z) (no-zero bs s W l h z)
       (λ q v e. let o = prev-in 0 (s .bins z) q v e in
       let i = sizes z q o in
@@ -179,7 +180,7 @@ module _ (bs : List ℕ) (s : State) (W : WellFormed s) (l : length bs ≡ end s
       let r = next-reads bs s W l h z q o in (
         i .0,
         (
-          reads bs s W l h (q + 4) (linkWord q v) (omega arith) (omega arith) (linkWord-small q v)
+          reads bs s W l h (q + previous-at) (linkWord q v) (omega arith) (omega arith) (linkWord-small q v)
               (at-back s q z (f .0) (f .1) (omega arith) ∙ ap (link q) e),
           (r .5 (omega arith) ∙ ap (linkWord q) (sym (on z q o (r .0) (r .2) (r .3) (r .5 (omega arith)))), tt),
         ),
@@ -190,7 +191,7 @@ module _ (bs : List ℕ) (s : State) (W : WellFormed s) (l : length bs ≡ end s
       let e' : some v ≡ some (r .0) = sym e ∙ r .1 in let k : r .0 ≡ v = cc in
       on z q o (r .0) (r .2) (r .3) (r .5 (omega arith)) ∙ k)
     where
-      on : (z q : ℕ) → 1 ≤ count q (s .bins z) → (v : ℕ) → v ≤ 65536 → v ≢ q → wordAt 4 bs (q + 8) ≡ linkWord q v → nextLarge bs q ≡ v
+      on : (z q : ℕ) → 1 ≤ count q (s .bins z) → (v : ℕ) → v ≤ 65536 → v ≢ q → wordAt 4 bs (q + next-at) ≡ linkWord q v → nextLarge bs q ≡ v
       on z q o v a b e = ap (followed q) e ∙ followed-linkWord q v (omega (arith, start-of bs s W l h z q o)) a b
 
   -- ---- header and false block
@@ -200,11 +201,11 @@ module _ (bs : List ℕ) (s : State) (W : WellFormed s) (l : length bs ≡ end s
       reads bs s W l h (4 + 8 * i) 0 (omega arith) (omega (arith, end-big bs s W l h)) (omega arith)
       (if<-yes (4 + 8 * i) 96 _ _ (omega arith) ∙ if=-no ((4 + 8 * i) % 8) 0 _ _ (omega arith))
 
-  at-false : (o : ℕ) → o < 72 → sheet s (96 + o) ≡ index (s .top) n (s .bins) (some 0) (s .top) 96 64 o
+  at-false : (o : ℕ) → o < 72 → sheet s (false-block + o) ≡ index (s .top) n (s .bins) (some 0) (s .top) false-block 64 o
   unfolding sheet
   at-false o b =
       if<-no (96 + o) 96 _ _ (omega arith) ∙ if<-yes (96 + o) 168 _ _ (omega arith)
-      ∙ ap (index (s .top) n (s .bins) (some 0) (s .top) 96 64) (omega arith)
+      ∙ ap (index (s .top) n (s .bins) (some 0) (s .top) false-block 64) (omega arith)
 
   start-rest : (x : ℕ) → count x marks ≡ if< 0 (sizeAt bs x) (count x (s .bins (sizeAt bs x))) 0
   start-rest x =
@@ -212,9 +213,9 @@ module _ (bs : List ℕ) (s : State) (W : WellFormed s) (l : length bs ≡ end s
       (λ k. is-marked x ∙ by= (count x (s .bins (sizeAt bs x))) 0 (λ e. e) (λ o. absurd (omega (arith, sizes (sizeAt bs x) x (omega arith) .1)))
       ∙ sym (if<-no 0 (sizeAt bs x) _ _ k))
 
-  word1 : wordAt 4 bs 8 ≡ 96
+  false-is : wordAt 4 bs false-word-at ≡ false-block
   unfolding headerWord if=
-  word1 = header-reads bs s W l h 1 (omega arith) (omega arith)
+  false-is = header-reads bs s W l h 1 (omega arith) (omega arith)
 
   -- ---- layout 1
   module _ (t1 : s .top ≡ 1) where
@@ -226,7 +227,7 @@ module _ (bs : List ℕ) (s : State) (W : WellFormed s) (l : length bs ≡ end s
     above-is y = seek-cong _ _ n (suc y) (λ u k. if<-no (height (s .top) u) 1 _ _ (omega (arith, height-one (s .top) u t1)))
 
     -- what is found past y is a start past y, or 0
-    bound : (y : ℕ) → (next-bin y ≤ 65536) × ((q : ℕ) → q ≢ 0 → (q < 168) ⊎ (sizeAt bs q ≤ y) → next-bin y ≢ q)
+    bound : (y : ℕ) → (next-bin y ≤ 65536) × ((q : ℕ) → q ≢ 0 → (q < blocks-at) ⊎ (sizeAt bs q ≤ y) → next-bin y ≢ q)
     bound y =
         by= (next-bin y) 0 (λ e. (omega arith, λ q nz c k. nz (sym k ∙ e)))
         (λ ne. let r = seek-spec (λ (u : ℕ). first (s .bins u)) n (suc y) ne in
@@ -234,12 +235,12 @@ module _ (bs : List ℕ) (s : State) (W : WellFormed s) (l : length bs ≡ end s
         let st = start-of bs s W l h (r .0) (next-bin y) o in
         (omega arith, λ q nz c k. apart q (r .0) (r .1) (subst (λ (v : ℕ). 1 ≤ count v (s .bins (r .0))) k o) c))
       where
-        apart : (q z : ℕ) → y < z → 1 ≤ count q (s .bins z) → (q < 168) ⊎ (sizeAt bs q ≤ y) → ⊥
+        apart : (q z : ℕ) → y < z → 1 ≤ count q (s .bins z) → (q < blocks-at) ⊎ (sizeAt bs q ≤ y) → ⊥
         apart q z yz o (inl c) = omega (arith, start-of bs s W l h z q o .0)
         apart q z yz o (inr c) = omega (arith, sizes z q o .0)
 
-    tops : (z : ℕ) → 64 < z → first (s .bins z) ≢ 0 → (wordAt 4 bs (first (s .bins z) + 12) ≡ 1)
-        × (wordAt 4 bs (first (s .bins z) + 64) ≡ linkWord (first (s .bins z)) (next-bin z)) × (nextBin bs (first (s .bins z)) ≡ next-bin z)
+    tops : (z : ℕ) → 64 < z → first (s .bins z) ≢ 0 → (wordAt 4 bs (first (s .bins z) + level-at) ≡ 1)
+        × (wordAt 4 bs (first (s .bins z) + chain-at) ≡ linkWord (first (s .bins z)) (next-bin z)) × (nextBin bs (first (s .bins z)) ≡ next-bin z)
     tops z z64 ne =
         let q : ℕ = first (s .bins z) in
         let o = first-count (s .bins z) q refl ne in
@@ -248,38 +249,39 @@ module _ (bs : List ℕ) (s : State) (W : WellFormed s) (l : length bs ≡ end s
         let st = start-of bs s W l h z q o in
         let z72 : 72 ≤ z = omega arith in
         let a = height-one (s .top) z t1 in
-        let w : wordAt 4 bs (q + 64) ≡ linkWord q (next-bin z) =
-        reads bs s W l h (q + 64) (linkWord q (next-bin z)) (omega arith) (omega arith) (linkWord-small q (next-bin z))
+        let w : wordAt 4 bs (q + chain-at) ≡ linkWord q (next-bin z) =
+        reads bs s W l h (q + chain-at) (linkWord q (next-bin z)) (omega arith) (omega arith) (linkWord-small q (next-bin z))
         (at-word s q z (f .0) (f .1) z72 refl 1 (omega arith) (omega arith) (omega (arith, t1)) ∙ ap (λ (v : ℕ). some (linkWord q v)) (above-is z)) in (
-          reads bs s W l h (q + 12) 1 (omega arith) (omega arith) (omega arith) (at-level s q z (f .0) (f .1) z72 refl ∙ ap some a),
+          reads bs s W l h (q + level-at) 1 (omega arith) (omega arith) (omega arith) (at-level s q z (f .0) (f .1) z72 refl ∙ ap some a),
           w,
           ap (followed q) w ∙ followed-linkWord q (next-bin z) (omega arith) (bound z .0) (bound z .1 q ne (inr (omega arith))),
         )
 
-    false-zero : (o : ℕ) → o < 72 → o % 4 ≡ 0 → o ≢ 12 → o ≢ 64 → wordAt 4 bs (96 + o) ≡ 0
+    false-zero : (o : ℕ) → o < 72 → o % 4 ≡ 0 → o ≢ level-at → o ≢ chain-at → wordAt 4 bs (false-block + o) ≡ 0
     unfolding index
     false-zero o b al n12 n64 =
-        reads bs s W l h (96 + o) 0 (omega arith) (omega (arith, end-big bs s W l h)) (omega arith)
+        reads bs s W l h (false-block + o) 0 (omega arith) (omega (arith, end-big bs s W l h)) (omega arith)
         (at-false o b ∙ if=-no o 12 _ _ n12
         ∙ by< o (68 - 4 * s .top) (λ c. if<-yes o _ _ _ c) (λ c. if<-no o _ _ _ c ∙ if<-yes 64 o _ _ (omega arith)))
 
-    chain-word : wordAt 4 bs 160 ≡ linkWord 96 (next-bin 64)
+    chain-word : wordAt 4 bs (false-block + chain-at) ≡ linkWord false-block (next-bin 64)
     chain-word =
-        reads bs s W l h 160 (linkWord 96 (next-bin 64)) refl (omega (arith, end-big bs s W l h)) (linkWord-small 96 (next-bin 64))
-        (false-word s 1 (omega arith) (omega arith) (omega arith) ∙ ap (λ (v : ℕ). some (linkWord 96 v)) (above-is 64))
+        reads bs s W l h (false-block + chain-at) (linkWord false-block (next-bin 64)) refl (omega (arith, end-big bs s W l h))
+        (linkWord-small false-block (next-bin 64))
+        (false-word s 1 (omega arith) (omega arith) (omega arith) ∙ ap (λ (v : ℕ). some (linkWord false-block v)) (above-is 64))
 
-    chain-on : nextBin bs 96 ≡ next-bin 64
-    chain-on = ap (followed 96) chain-word
-        ∙ followed-linkWord 96 (next-bin 64) (omega arith) (bound 64 .0) (bound 64 .1 96 (omega arith) (inl (omega arith)))
+    chain-on : nextBin bs false-block ≡ next-bin 64
+    chain-on = ap (followed false-block) chain-word
+        ∙ followed-linkWord false-block (next-bin 64) (omega arith) (bound 64 .0) (bound 64 .1 false-block (omega arith) (inl (omega arith)))
 
     is-listed : lists listMarks bs (length marks) marks ≡ true
     unfolding lists
     is-listed =
-        let r = smalls-yes bs n (s .bins) sizes lkS lkL (λ z a b c. small-reads bs s W l h z a b c) 8 8 0
+        let r = smalls-yes bs n (s .bins) sizes linked-small linked-large (λ z a b c. small-reads bs s W l h z a b c) 8 8 0
         (length marks) marks refl refl refl refl start-rest in
-        ap (λ (m : Left (List ℕ)). if-left m false (λ k ms'. chain listMarks bs (suc k) k ms' 64 (nextBin bs 96))) (r .2)
+        ap (λ (m : Left (List ℕ)). if-left m false (λ k ms'. chain listMarks bs (suc k) k ms' 64 (nextBin bs false-block))) (r .2)
         ∙ ap (chain listMarks bs (suc (r .0)) (r .0) (r .1) 64) chain-on
-        ∙ chain-yes bs n (s .bins) sizes lkS lkL tops (suc (r .0)) (r .0) (r .1) 64 (omega arith) (r .3) (omega arith) (r .4)
+        ∙ chain-yes bs n (s .bins) sizes linked-small linked-large tops (suc (r .0)) (r .0) (r .1) 64 (omega arith) (r .3) (omega arith) (r .4)
 
     pub accepts : inspect listMarks bs ≡ true
     unfolding inspect
@@ -299,25 +301,28 @@ module _ (bs : List ℕ) (s : State) (W : WellFormed s) (l : length bs ≡ end s
               omega arith,
               (
                 omega (arith, sized-eight (s .low) sized-low),
-                (omega (arith, sized-eight (s .low) sized-low), (ap (wordAt 4 bs) is-R ∙ rest-head ∙ omega arith ∙ sym (free-head (wordAt 4 bs 24 - wordAt 4 bs 16) (omega arith)), tt)),
+                (
+                  omega (arith, sized-eight (s .low) sized-low),
+                  (ap (wordAt 4 bs) is-R ∙ rest-head ∙ omega arith ∙ sym (free-head (E bs - R bs) (omega arith)), tt),
+                ),
               ),
             ),
           ),
         )
         ∙ guard-yes (false-tests bs) false _ (
-          word1,
+          false-is,
           (
             top-reads bs s W l h ∙ t1,
             (
-              chain-word ∙ ap (linkWord 96) (sym chain-on),
+              chain-word ∙ ap (linkWord false-block) (sym chain-on),
               (
                 false-zero 68 (omega arith) refl (omega arith) (omega arith),
                 (
                   cleared-yes bs 12 8 4 header-zero,
                   (
-                    cleared-yes bs 3 4 96 (λ i b. false-zero (4 * i) (omega arith) (omega arith) (omega arith) (omega arith)),
+                    cleared-yes bs 3 4 false-block (λ i b. false-zero (4 * i) (omega arith) (omega arith) (omega arith) (omega arith)),
                     (
-                      cleared-yes bs 12 4 112 (λ i b. ap (wordAt 4 bs) (omega arith)
+                      cleared-yes bs 12 4 (false-block + 16) (λ i b. ap (wordAt 4 bs) (omega arith)
                           ∙ false-zero (16 + 4 * i) (omega arith) (omega arith) (omega arith) (omega arith)),
                       (omega arith, tt),
                     ),
@@ -328,7 +333,7 @@ module _ (bs : List ℕ) (s : State) (W : WellFormed s) (l : length bs ≡ end s
           ),
         )
         ∙ ap (λ (m : Scanned (List ℕ)). if-seen m false
-        (λ n ms sum. guard (same (wordAt 4 bs 0) (sum + (wordAt 4 bs 24 - wordAt 4 bs 16) - 4) ∷ []) false (lists listMarks bs n ms))) is-scanned
-        ∙ guard-yes (same (wordAt 4 bs 0) (freeSum (s .low) + freeSum (s .high) + (wordAt 4 bs 24 - wordAt 4 bs 16) - 4) ∷ []) false _
+        (λ n ms sum. guard (same (wordAt 4 bs free-word-at) (sum + (E bs - R bs) - 4) ∷ []) false (lists listMarks bs n ms))) is-scanned
+        ∙ guard-yes (same (wordAt 4 bs free-word-at) (freeSum (s .low) + freeSum (s .high) + (E bs - R bs) - 4) ∷ []) false _
         (free-word ∙ omega arith, tt)
         ∙ is-listed

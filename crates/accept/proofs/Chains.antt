@@ -18,6 +18,7 @@ use Rattle.paper.proofs.bins.Listed.{rebin-other, rebin-same}
 use Rattle.paper.proofs.bins.Seek.{seek-cong, seek-gap, seek-zero}
 use Rattle.paper.specs.Bins.{count, first, rebin, seek}
 use Rattle.paper.specs.Governed.{above}
+use Rattle.paper.specs.Layout.{chain-at, large, level-at, small-bins}
 use Rattle.words.specs.Choice.{by<, by=, if=-no, if=-yes}
 use Rattle.words.specs.Words.{wordAt}
 
@@ -58,8 +59,8 @@ module _ (bs : List ℕ) where
 
   module _ (n : ℕ) where
     abbrev pub Tops : (ℕ → List ℕ) → ℕ → Type 0
-    Tops b z = first (b z) ≢ 0 → (wordAt 4 bs (first (b z) + 12) ≡ 1)
-        × (wordAt 4 bs (first (b z) + 64) ≡ linkWord (first (b z)) (seek (λ (u : ℕ). first (b u)) n (suc z)))
+    Tops b z = first (b z) ≢ 0 → (wordAt 4 bs (first (b z) + level-at) ≡ 1)
+        × (wordAt 4 bs (first (b z) + chain-at) ≡ linkWord (first (b z)) (seek (λ (u : ℕ). first (b u)) n (suc z)))
 
     pub record Binned (y f : ℕ) (ms : List ℕ) : Type 0 where
       pub bin : ℕ → List ℕ
@@ -70,7 +71,7 @@ module _ (bs : List ℕ) where
       pub all : (x : ℕ) → count x ms ≡ count x (bin (sizeAt bs x))
 
     module _ (y f z : ℕ) (ms ms' l : List ℕ) (fl : first l ≡ f) (nf : f ≢ 0) (yz : y < z) (zn : z ≤ n) (lk : LinkedL z l)
-        (t12 : wordAt 4 bs (f + 12) ≡ 1) (t64 : wordAt 4 bs (f + 64) ≡ linkWord f (nextBin bs f))
+        (level-word : wordAt 4 bs (f + level-at) ≡ 1) (chain-word : wordAt 4 bs (f + chain-at) ≡ linkWord f (nextBin bs f))
         (sp : (x : ℕ) → count x ms ≡ count x l + count x ms') (B : Binned z (nextBin bs f) ms') where
       unfoldable b : ℕ → List ℕ
       b = rebin (B .bin) z l
@@ -90,8 +91,8 @@ module _ (bs : List ℕ) where
       cons-tops u nz =
           by= u z
           (λ e. let q : first (b u) ≡ f = ap (λ (v : ℕ). first (b v)) e ∙ ap first b-same ∙ fl in (
-            ap (λ (v : ℕ). wordAt 4 bs (v + 12)) q ∙ t12,
-            ap (λ (v : ℕ). wordAt 4 bs (v + 64)) q ∙ t64 ∙ ap (linkWord f) (B .begins ∙ past z (omega arith))
+            ap (λ (v : ℕ). wordAt 4 bs (v + level-at)) q ∙ level-word,
+            ap (λ (v : ℕ). wordAt 4 bs (v + chain-at)) q ∙ chain-word ∙ ap (linkWord f) (B .begins ∙ past z (omega arith))
                 ∙ ap (λ (v : ℕ). linkWord f (seek (λ (w : ℕ). first (b w)) n (suc v))) (sym e)
                 ∙ ap (λ (v : ℕ). linkWord v (seek (λ (w : ℕ). first (b w)) n (suc u))) (sym q),
           ))
@@ -99,8 +100,8 @@ module _ (bs : List ℕ) where
           (λ lt. absurd (nz (ap first (b-other u ne ∙ B .below u (omega arith)) ∙ first-nil)))
           (λ ge. let q : first (b u) ≡ first (B .bin u) = ap first (b-other u ne) in
           let t = B .tops u (λ o. nz (q ∙ o)) in (
-            ap (λ (v : ℕ). wordAt 4 bs (v + 12)) q ∙ t .0,
-            ap (λ (v : ℕ). wordAt 4 bs (v + 64)) q ∙ t .1 ∙ ap (linkWord (first (B .bin u))) (past u ge)
+            ap (λ (v : ℕ). wordAt 4 bs (v + level-at)) q ∙ t .0,
+            ap (λ (v : ℕ). wordAt 4 bs (v + chain-at)) q ∙ t .1 ∙ ap (linkWord (first (B .bin u))) (past u ge)
                 ∙ ap (λ (v : ℕ). linkWord v (seek (λ (w : ℕ). first (b w)) n (suc u))) (sym q),
           )))
 
@@ -168,10 +169,10 @@ module _ (bs : List ℕ) where
     pub above : (u : ℕ) → 64 < u → bin u ≡ b u
     pub below : (u : ℕ) → u < z → u ≤ 64 → bin u ≡ []
     pub linked : (u : ℕ) → u ≤ 64 → LinkedS u (bin u)
-    pub firsts : (u : ℕ) → z ≤ u → u ≤ 64 → u % 8 ≡ 0 → first (bin u) ≡ wordAt 4 bs (u + 24)
+    pub firsts : (u : ℕ) → z ≤ u → u ≤ 64 → u % 8 ≡ 0 → first (bin u) ≡ wordAt 4 bs (u + small-bins)
     pub all : (x : ℕ) → count x ms ≡ count x (bin (sizeAt bs x))
 
-  module _ (b : ℕ → List ℕ) (z : ℕ) (ms ms' l : List ℕ) (z8 : z % 8 ≡ 0) (z64 : z ≤ 64) (fl : first l ≡ wordAt 4 bs (z + 24)) (lk : LinkedS z l)
+  module _ (b : ℕ → List ℕ) (z : ℕ) (ms ms' l : List ℕ) (z8 : z % 8 ≡ 0) (z64 : z ≤ 64) (fl : first l ≡ wordAt 4 bs (z + small-bins)) (lk : LinkedS z l)
       (sp : (x : ℕ) → count x ms ≡ count x l + count x ms') (B : Smalls b (z + 8) ms') where
     unfoldable c : ℕ → List ℕ
     c = rebin (B .bin) z l
@@ -191,7 +192,7 @@ module _ (bs : List ℕ) where
       below = λ u h h'. c-other u (omega arith) ∙ B .below u (omega arith) h';
       linked = λ u h. by= u z (λ e. subst (λ (v : ℕ). LinkedS v (c v)) (sym e) (subst (LinkedS z) (sym c-same) lk))
           (λ ne. subst (LinkedS u) (sym (c-other u ne)) (B .linked u h));
-      firsts = λ u h h' u8. by= u z (λ e. ap (λ (v : ℕ). first (c v)) e ∙ ap first c-same ∙ fl ∙ ap (λ (v : ℕ). wordAt 4 bs (v + 24)) (sym e))
+      firsts = λ u h h' u8. by= u z (λ e. ap (λ (v : ℕ). first (c v)) e ∙ ap first c-same ∙ fl ∙ ap (λ (v : ℕ). wordAt 4 bs (v + small-bins)) (sym e))
           (λ ne. ap first (c-other u ne) ∙ B .firsts u (omega arith) h' u8);
       all = λ x. by= (sizeAt bs x) z
           (λ e. omega (
@@ -209,7 +210,7 @@ module _ (bs : List ℕ) where
           omega (arith, sp x, B .all x, ap (count x) (c-other (sizeAt bs x) ne)));
     }
 
-  pub smalls-inv : (c z k : ℕ) (ms : List ℕ) (k' : ℕ) (ms' : List ℕ) → z + 8 * c ≡ 72 → z % 8 ≡ 0 → k ≡ length ms
+  pub smalls-inv : (c z k : ℕ) (ms : List ℕ) (k' : ℕ) (ms' : List ℕ) → z + 8 * c ≡ large → z % 8 ≡ 0 → k ≡ length ms
       → smalls listMarks bs c z k ms ≡ left k' ms'
       → (k' ≡ length ms') × ((x : ℕ) → count x ms' ≤ count x ms)
       × ((b : ℕ → List ℕ) → ((u : ℕ) → u ≤ 64 → b u ≡ []) → ((x : ℕ) → count x ms' ≡ count x (b (sizeAt bs x))) → Smalls b z ms)
@@ -228,9 +229,9 @@ module _ (bs : List ℕ) where
         },
       )
   smalls-inv (suc c) z k ms k' ms' e z8 i h =
-      let s = inv-left (follow listMarks (small-tests bs z) (nextSmall bs) k ms 0 (wordAt 4 bs (z + 24))) lost (left k' ms')
+      let s = inv-left (follow listMarks (small-tests bs z) (nextSmall bs) k ms 0 (wordAt 4 bs (z + small-bins))) lost (left k' ms')
       (λ k₁ ms₁. smalls listMarks bs c (z + 8) k₁ ms₁) (lost-left k' ms') h in
-      let l = follow-inv (small-tests bs z) (nextSmall bs) k ms 0 (wordAt 4 bs (z + 24)) (s .0) (s .1) i (s .2) in
+      let l = follow-inv (small-tests bs z) (nextSmall bs) k ms 0 (wordAt 4 bs (z + small-bins)) (s .0) (s .1) i (s .2) in
       let r = smalls-inv c (z + 8) (s .0) (s .1) k' ms' (omega arith) (omega arith) (l .4) (s .3) in (
         r .0,
         (λ x. omega (arith, r .1 x, l .3 x)),

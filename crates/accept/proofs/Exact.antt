@@ -8,7 +8,7 @@ use native.Mathlib.Omega.{arith}
 use lib.ListN.{length}
 use Rattle.heads.specs.Links.{linkWord}
 use Rattle.accept.proofs.Accept.{accepts}
-use Rattle.accept.proofs.Build.{TopsTo, built, cleared-inv, marks, nn, sizes}
+use Rattle.accept.proofs.Build.{TopsTo, built, cleared-inv, marks, pool-end, sizes}
 use Rattle.accept.proofs.Chains.{LinkedL, Tops, chain-inv, false-true, inv-left, smalls-inv}
 use Rattle.guards.proofs.Guards.{All, guard-inv}
 use Rattle.accept.proofs.MarkLists.{listMarks}
@@ -25,6 +25,7 @@ use Rattle.paper.specs.Allowed.{Allowed}
 use Rattle.paper.specs.Bins.{first, seek}
 use Rattle.paper.specs.Blocks.{Block, freeSum, total}
 use Rattle.paper.specs.Governed.{above, height, reach}
+use Rattle.paper.specs.Layout.{blocks-at, chain-at, false-block, free-word-at, level-at}
 use Rattle.paper.specs.Sound.{Sound}
 use Rattle.words.specs.Choice.{by<, if<-no}
 use Rattle.words.specs.Words.{Bytes, wordAt}
@@ -48,47 +49,48 @@ tops-one bs n b u h nz =
           (r .1 ∙ ap (linkWord (first (b u))) (sym (above-one n b u))),
     )
 
-pub false-zero : (bs : List ℕ) → All (false-tests bs) → (o : ℕ) → o < 72 → o % 4 ≡ 0 → o ≢ 12 → (o < 64) ⊎ (64 < o) → wordAt 4 bs (96 + o) ≡ 0
+pub false-zero : (bs : List ℕ) → All (false-tests bs) → (o : ℕ) → o < 72 → o % 4 ≡ 0 → o ≢ level-at
+    → (o < chain-at) ⊎ (chain-at < o) → wordAt 4 bs (false-block + o) ≡ 0
 false-zero bs ft o l o4 n12 (inl c) =
-    by< o 12 (λ d. ap (wordAt 4 bs) (omega arith) ∙ cleared-inv bs 3 4 96 (ft .1 .1 .1 .1 .1 .0) (o / 4) (omega arith))
-    (λ d. ap (wordAt 4 bs) (omega arith) ∙ cleared-inv bs 12 4 112 (ft .1 .1 .1 .1 .1 .1 .0) ((o - 16) / 4) (omega arith))
+    by< o level-at (λ d. ap (wordAt 4 bs) (omega arith) ∙ cleared-inv bs 3 4 false-block (ft .1 .1 .1 .1 .1 .0) (o / 4) (omega arith))
+    (λ d. ap (wordAt 4 bs) (omega arith) ∙ cleared-inv bs 12 4 (false-block + 16) (ft .1 .1 .1 .1 .1 .1 .0) ((o - 16) / 4) (omega arith))
 false-zero bs ft o l o4 n12 (inr c) = ap (wordAt 4 bs) (omega arith) ∙ ft .1 .1 .1 .0
 
 module _ (bs : List ℕ) (by : Bytes bs) (al : Allowed (length bs)) (rt : All (rest-tests bs)) (xs ys : List Block)
-    (rL : Run bs 0 1 xs) (fL : Facts bs xs 168 1) (tL : 168 + total xs ≡ R bs) (rH : Run bs 1 1 ys) (fH : Facts bs ys (E bs) 1)
-    (tH : E bs + total ys ≡ length bs)
-    (fw : wordAt 4 bs 0 ≡ freeSum xs + freeSum ys + (E bs - R bs) - 4) where
+    (low-run : Run bs 0 1 xs) (low-facts : Facts bs xs blocks-at 1) (low-end : blocks-at + total xs ≡ R bs)
+    (high-run : Run bs 1 1 ys) (high-facts : Facts bs ys (E bs) 1) (high-end : E bs + total ys ≡ length bs)
+    (free-word : wordAt 4 bs free-word-at ≡ freeSum xs + freeSum ys + (E bs - R bs) - 4) where
   abbrev ms : List ℕ
-  ms = marks bs by al rt xs ys rL fL tL rH fH tH
+  ms = marks bs by al rt xs ys low-run low-facts low-end high-run high-facts high-end
 
   abbrev m : ℕ
-  m = nn bs by al rt xs ys rL fL tL rH fH tH
+  m = pool-end bs by al rt xs ys low-run low-facts low-end high-run high-facts high-end
 
   from-lists : All (false-tests bs) → lists listMarks bs (length ms) ms ≡ true → Sound bs
   unfolding lists
   from-lists ft h =
       let a = inv-left (smalls listMarks bs 8 8 (length ms) ms) false true
-      (λ k ms'. chain listMarks bs (suc k) k ms' 64 (nextBin bs 96)) false-true h in
+      (λ k ms'. chain listMarks bs (suc k) k ms' 64 (nextBin bs false-block)) false-true h in
       let c = smalls-inv bs 8 8 (length ms) ms (a .0) (a .1) refl refl refl (a .2) in
-      let B = chain-inv bs m (suc (a .0)) (a .0) (a .1) 64 (nextBin bs 96) (c .0)
-      (λ x o. sizes bs by al rt xs ys rL fL tL rH fH tH x (omega (arith, c .1 x))) (a .3) in
+      let B = chain-inv bs m (suc (a .0)) (a .0) (a .1) 64 (nextBin bs false-block) (c .0)
+      (λ x o. sizes bs by al rt xs ys low-run low-facts low-end high-run high-facts high-end x (omega (arith, c .1 x))) (a .3) in
       let S = c .2 (B .bin) (B .below) (B .all) in
       let past : (u : ℕ) → 64 ≤ u → seek (λ (v : ℕ). first (B .bin v)) m (suc u) ≡ seek (λ (v : ℕ). first (S .bin v)) m (suc u) =
       λ u l. seek-cong _ _ m (suc u) (λ v k. ap first (sym (S .above v (omega arith)))) in
-      built bs by al rt xs ys rL fL tL rH fH tH 1 (inl refl) (omega arith) fw (S .bin) (S .linked)
+      built bs by al rt xs ys low-run low-facts low-end high-run high-facts high-end 1 (inl refl) (omega arith) free-word (S .bin) (S .linked)
       (λ u l. subst (LinkedL bs u) (sym (S .above u l)) (B .linked u))
       (λ u a b c. S .firsts u a b c)
       (λ u l. tops-one bs m (S .bin) u (λ nz. let e = S .above u l in
       let t = B .tops u (λ z. nz (ap first e ∙ z)) in (
-        ap (λ (q : List ℕ). wordAt 4 bs (first q + 12)) e ∙ t .0,
-        ap (λ (q : List ℕ). wordAt 4 bs (first q + 64)) e ∙ t .1
+        ap (λ (q : List ℕ). wordAt 4 bs (first q + level-at)) e ∙ t .0,
+        ap (λ (q : List ℕ). wordAt 4 bs (first q + chain-at)) e ∙ t .1
             ∙ ap (λ (q : List ℕ). linkWord (first q) (seek (λ (v : ℕ). first (B .bin v)) m (suc u))) (sym e)
             ∙ ap (linkWord (first (S .bin u))) (past u (omega arith)),
       )))
       (ft .0) (ft .1 .0) (cleared-inv bs 12 8 4 (ft .1 .1 .1 .1 .0)) (false-zero bs ft)
       (λ j j1 jt. let e : j ≡ 1 = omega arith in
-      subst (λ (i : ℕ). wordAt 4 bs (96 + (68 - 4 * i)) ≡ linkWord 96 (above 1 m (S .bin) i 64)) (sym e)
-      (ft .1 .1 .0 ∙ ap (linkWord 96) (B .begins ∙ past 64 (omega arith) ∙ sym (above-one m (S .bin) 64))))
+      subst (λ (i : ℕ). wordAt 4 bs (false-block + (68 - 4 * i)) ≡ linkWord false-block (above 1 m (S .bin) i 64)) (sym e)
+      (ft .1 .1 .0 ∙ ap (linkWord false-block) (B .begins ∙ past 64 (omega arith) ∙ sym (above-one m (S .bin) 64))))
       (S .all)
 
 module _ (bs : List ℕ) where
@@ -99,10 +101,11 @@ module _ (bs : List ℕ) where
       let g2 = guard-inv (rest-tests bs) false _ true false-true (g1 .1) in
       let g3 = guard-inv (false-tests bs) false _ true false-true (g2 .1) in
       let s1 = inv-seen (scanned listMarks bs) false true _ false-true (g3 .1) in
-      let g4 = guard-inv (same (wordAt 4 bs 0) (s1 .2 + (E bs - R bs) - 4) ∷ []) false (lists listMarks bs (s1 .0) (s1 .1)) true false-true (s1 .4) in
-      let s2 = inv-seen (scan listMarks bs (suc (R bs)) 0 (R bs) 168 3 0 [] 0) stray (seen (s1 .0) (s1 .1) (s1 .2))
+      let g4 = guard-inv (same (wordAt 4 bs free-word-at) (s1 .2 + (E bs - R bs) - 4) ∷ []) false (lists listMarks bs (s1 .0) (s1 .1)) true false-true
+      (s1 .4) in
+      let s2 = inv-seen (scan listMarks bs (suc (R bs)) 0 (R bs) blocks-at 3 0 [] 0) stray (seen (s1 .0) (s1 .1) (s1 .2))
       (λ n ms sum. scan listMarks bs (suc (length bs)) 1 (length bs) (E bs) 3 n ms sum) (stray-seen (s1 .0) (s1 .1) (s1 .2)) (s1 .3) in
-      let lo = scan-inv bs (suc (R bs)) 0 (R bs) 168 1 0 [] 0 (s2 .0) (s2 .1) (s2 .2) (omega arith) (omega arith) refl (s2 .3) in
+      let lo = scan-inv bs (suc (R bs)) 0 (R bs) blocks-at 1 0 [] 0 (s2 .0) (s2 .1) (s2 .2) (omega arith) (omega arith) refl (s2 .3) in
       let hi = scan-inv bs (suc (length bs)) 1 (length bs) (E bs) 1 (s2 .0) (s2 .1) (s2 .2) (s1 .0) (s1 .1) (s1 .2) (omega arith) (omega arith)
       (lo .6) (s2 .4) in
       from-lists bs by (allowed-inv (length bs) (g1 .0 .0)) (g2 .0) (lo .0) (hi .0) (lo .1) (lo .2) (lo .3) (hi .1) (hi .2) (hi .3)

@@ -17,13 +17,14 @@ use Rattle.guards.specs.Tests.{same}
 use Rattle.paper.proofs.bins.Bins.{count-nil, first-count, nil-of}
 use Rattle.paper.proofs.bins.Seek.{seek-none, seek-spec}
 use Rattle.paper.specs.Bins.{count, first, seek}
+use Rattle.paper.specs.Layout.{chain-at, large, level-at, small-bins}
 use Rattle.words.specs.Choice.{by<, by=, if<, if<-no, if<-yes, if=-no, if=-yes}
 use Rattle.words.specs.Words.{wordAt}
 
 module _ (bs : List ℕ) where
   module _ (n : ℕ) (bins : ℕ → List ℕ)
       (sizes : (z x : ℕ) → 1 ≤ count x (bins z) → (sizeAt bs x ≡ z) × (8 ≤ z) × (z % 8 ≡ 0) × (z ≤ n))
-      (lkS : (z : ℕ) → z ≤ 64 → LinkedS bs z (bins z)) (lkL : (z : ℕ) → 64 < z → LinkedL bs z (bins z)) where
+      (linked-small : (z : ℕ) → z ≤ 64 → LinkedS bs z (bins z)) (linked-large : (z : ℕ) → 64 < z → LinkedL bs z (bins z)) where
     -- the marks that are left are those of the bins past size y
     abbrev pub Rest : ℕ → List ℕ → Type 0
     Rest y ms = (x : ℕ) → count x ms ≡ if< y (sizeAt bs x) (count x (bins (sizeAt bs x))) 0
@@ -77,13 +78,13 @@ module _ (bs : List ℕ) where
               (count x (bins (sizeAt bs x))) 0 h,
         )))
 
-    module _ (fs : (z : ℕ) → 8 ≤ z → z ≤ 64 → z % 8 ≡ 0 → wordAt 4 bs (z + 24) ≡ first (bins z)) where
-      pub smalls-yes : (c z y k : ℕ) (ms : List ℕ) → z + 8 * c ≡ 72 → z % 8 ≡ 0 → y + 8 ≡ z → k ≡ length ms → Rest y ms
+    module _ (fs : (z : ℕ) → 8 ≤ z → z ≤ 64 → z % 8 ≡ 0 → wordAt 4 bs (z + small-bins) ≡ first (bins z)) where
+      pub smalls-yes : (c z y k : ℕ) (ms : List ℕ) → z + 8 * c ≡ large → z % 8 ≡ 0 → y + 8 ≡ z → k ≡ length ms → Rest y ms
           → (k' : ℕ) × (ms' : List ℕ) × (smalls listMarks bs c z k ms ≡ left k' ms') × (k' ≡ length ms') × Rest 64 ms'
       unfolding smalls
       smalls-yes zero z y k ms e z8 yz i r = (k, ms, refl, i, subst (λ (v : ℕ). Rest v ms) (omega arith) r)
       smalls-yes (suc c) z y k ms e z8 yz i r =
-          let f = follow-yes (small-tests bs z) (nextSmall bs) (bins z) k ms 0 i (lkS z (omega arith)) (λ x. rest-le y z ms x r (omega arith)) in
+          let f = follow-yes (small-tests bs z) (nextSmall bs) (bins z) k ms 0 i (linked-small z (omega arith)) (λ x. rest-le y z ms x r (omega arith)) in
           let gap : (u x : ℕ) → y < u → u < z → count x (bins u) ≡ 0 =
           λ u x a b. by= (count x (bins u)) 0 (λ e. e) (λ k. absurd (omega (arith, sizes u x (omega arith) .1, sizes u x (omega arith) .2))) in
           let n = smalls-yes c (z + 8) z (f .0) (f .1) (omega arith) (omega arith) refl (f .4) (advance y z ms (f .1) r (omega arith) gap (f .3)) in (
@@ -95,8 +96,8 @@ module _ (bs : List ℕ) where
             n .4,
           )
 
-    module _ (tops : (z : ℕ) → 64 < z → first (bins z) ≢ 0 → (wordAt 4 bs (first (bins z) + 12) ≡ 1)
-        × (wordAt 4 bs (first (bins z) + 64) ≡ linkWord (first (bins z)) (seek (λ (u : ℕ). first (bins u)) n (suc z)))
+    module _ (tops : (z : ℕ) → 64 < z → first (bins z) ≢ 0 → (wordAt 4 bs (first (bins z) + level-at) ≡ 1)
+        × (wordAt 4 bs (first (bins z) + chain-at) ≡ linkWord (first (bins z)) (seek (λ (u : ℕ). first (bins u)) n (suc z)))
         × (nextBin bs (first (bins z)) ≡ seek (λ (u : ℕ). first (bins u)) n (suc z))) where
       abbrev pub after : ℕ → ℕ
       after y = seek (λ (u : ℕ). first (bins u)) n (suc y)
@@ -105,7 +106,7 @@ module _ (bs : List ℕ) where
       none-left y ms b r e x =
           by< y (sizeAt bs x)
           (λ l. by= (count x (bins (sizeAt bs x))) 0 (λ o. r x ∙ if<-yes y (sizeAt bs x) _ _ l ∙ o)
-          (λ o. let nil = linked-empty (large-tests bs (sizeAt bs x)) (nextLarge bs) (bins (sizeAt bs x)) 0 (lkL (sizeAt bs x) (omega arith))
+          (λ o. let nil = linked-empty (large-tests bs (sizeAt bs x)) (nextLarge bs) (bins (sizeAt bs x)) 0 (linked-large (sizeAt bs x) (omega arith))
           (seek-none (λ (u : ℕ). first (bins u)) n (suc y) e (sizeAt bs x) (omega arith) (omega (arith, sizes (sizeAt bs x) x (omega arith) .3))) in
           absurd (omega (arith, ap (count x) nil, count-nil x))))
           (λ l. r x ∙ if<-no y (sizeAt bs x) _ _ l)
@@ -120,16 +121,16 @@ module _ (bs : List ℕ) where
           let s : sizeAt bs f ≡ z = sizes z f o .0 in
           let t = tops z (omega arith) (λ v. ne (sym e ∙ v)) in
           let u64 : nextBin bs f ≡ after z = ap (nextBin bs) (sym e) ∙ t .2 in
-          let w = follow-yes (large-tests bs z) (nextLarge bs) (bins z) k ms 0 i (lkL z (omega arith)) (λ x. rest-le y z ms x r yz) in
+          let w = follow-yes (large-tests bs z) (nextLarge bs) (bins z) k ms 0 i (linked-large z (omega arith)) (λ x. rest-le y z ms x r yz) in
           let none : (u x : ℕ) → y < u → u < z → count x (bins u) ≡ 0 =
-          λ u x a d. ap (count x) (linked-empty (large-tests bs u) (nextLarge bs) (bins u) 0 (lkL u (omega arith)) (gap u a d)) ∙ count-nil x in
+          λ u x a d. ap (count x) (linked-empty (large-tests bs u) (nextLarge bs) (bins u) 0 (linked-large u (omega arith)) (gap u a d)) ∙ count-nil x in
           if=-no f 0 _ _ ne
           ∙ guard-yes (first-tests bs y f) false _ (
             omega arith,
             (
-              ap (λ (v : ℕ). wordAt 4 bs (v + 12)) (sym e)
+              ap (λ (v : ℕ). wordAt 4 bs (v + level-at)) (sym e)
                   ∙ t .0,
-              (ap (λ (v : ℕ). wordAt 4 bs (v + 64)) (sym e) ∙ t .1 ∙ ap (λ (v : ℕ). linkWord v (after z)) e ∙ ap (linkWord f) (sym u64), tt),
+              (ap (λ (v : ℕ). wordAt 4 bs (v + chain-at)) (sym e) ∙ t .1 ∙ ap (λ (v : ℕ). linkWord v (after z)) e ∙ ap (linkWord f) (sym u64), tt),
             ),
           )
           ∙ ap (λ (m : Left (List ℕ)). if-left m false (λ k' ms'. chain listMarks bs c k' ms' (sizeAt bs f) (nextBin bs f)))

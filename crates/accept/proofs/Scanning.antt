@@ -15,12 +15,13 @@ use Rattle.paper.proofs.runs.Walk.{In}
 use Rattle.paper.specs.Bins.{count}
 use Rattle.paper.specs.Blocks.{Block, Kind, block, free, freeSum, held, remainder, size, total}
 use Rattle.paper.specs.Governed.{flagAbove, headWord}
+use Rattle.paper.specs.Layout.{large}
 use Rattle.paper.specs.Sound.{freeAt}
 use Rattle.words.specs.Choice.{by<, by=, if<-no, if<-yes, if=-no, if=-yes, ifs}
 use Rattle.words.specs.Words.{wordAt}
 
 pub small-le : (z : ℕ) → small z ≤ 1
-small-le z = by< z 72 (λ l. simp ifs (omega arith)) (λ l. simp ifs (omega arith))
+small-le z = by< z large (λ l. simp ifs (omega arith)) (λ l. simp ifs (omega arith))
 
 pub stray-seen : {M : Type 0} (n : ℕ) (ms : M) (sum : ℕ) → stray ≢ seen n ms sum
 stray-seen n ms sum e = let z : _≡_ {A = ℕ} 0 1 = cc in omega arith
@@ -45,7 +46,7 @@ module _ (bs : List ℕ) where
   abbrev pub Foot : ℕ → ℕ → Kind → ℕ → Type 0
   Foot q z held P = Unit {0}
   Foot q z remainder P = Unit {0}
-  Foot q z free P = 72 ≤ z → wordAt 4 bs (q + (z - 4)) ≡ headWord z free P
+  Foot q z free P = large ≤ z → wordAt 4 bs (q + (z - 4)) ≡ headWord z free P
 
   abbrev pub Facts : List Block → ℕ → ℕ → Type 0
   Facts xs p P = (q z : ℕ) (k : Kind) (P' : ℕ) → In xs p P q (block z k) P' → (wordAt 4 bs q ≡ headWord z k P') × Foot q z k P'
@@ -138,7 +139,7 @@ module _ (bs : List ℕ) where
         (
           omega arith,
           (
-            by< (sizeAt bs p) 72 (λ l. if<-yes (sizeAt bs p) 72 _ _ l)
+            by< (sizeAt bs p) large (λ l. if<-yes (sizeAt bs p) 72 _ _ l)
                 (λ l. if<-no (sizeAt bs p) 72 _ _ l ∙ ap (λ (y : ℕ). wordAt 4 bs (p + (y - 4))) s ∙ d .1 (omega arith) ∙ sym hd),
             tt,
           ),

@@ -20,6 +20,7 @@ use Rattle.marks.specs.Marks.{bitAt, putBitAt}
 use Rattle.paper.proofs.reads.Allowed.{allowed-inv}
 use Rattle.paper.proofs.bins.Bins.{count-cons, count-nil, count-there}
 use Rattle.paper.specs.Bins.{count}
+use Rattle.paper.specs.Layout.{blocks-at, false-block, free-word-at, small-bins}
 use Rattle.words.specs.Choice.{by<, by=, if=, if=-no, if=-yes, ifs}
 use Rattle.words.specs.Words.{wordAt}
 
@@ -158,10 +159,10 @@ module _ (bs : List ℕ) where
   unfolding smalls
   sim-smalls zero z k ms ws r = (refl, r)
   sim-smalls (suc c) z k ms ws r =
-      left-rel RepLeft (follow listMarks (small-tests bs z) (nextSmall bs) k ms 0 (wordAt 4 bs (z + 24)))
-      (follow bitMarks (small-tests bs z) (nextSmall bs) k ws 0 (wordAt 4 bs (z + 24)))
+      left-rel RepLeft (follow listMarks (small-tests bs z) (nextSmall bs) k ms 0 (wordAt 4 bs (z + small-bins)))
+      (follow bitMarks (small-tests bs z) (nextSmall bs) k ws 0 (wordAt 4 bs (z + small-bins)))
       lost (λ k' ms'. smalls listMarks bs c (z + 8) k' ms') lost (λ k' ms'. smalls bitMarks bs c (z + 8) k' ms')
-      (sim-follow (small-tests bs z) (nextSmall bs) k ms ws 0 (wordAt 4 bs (z + 24)) r) tt (λ k' ms' ws' r'. sim-smalls c (z + 8) k' ms' ws' r')
+      (sim-follow (small-tests bs z) (nextSmall bs) k ms ws 0 (wordAt 4 bs (z + small-bins)) r) tt (λ k' ms' ws' r'. sim-smalls c (z + 8) k' ms' ws' r')
 
   pub sim-chain : (c k : ℕ) (ms ws : List ℕ) (y f : ℕ) → Rep ms ws → chain listMarks bs c k ms y f ≡ chain bitMarks bs c k ws y f
   unfolding chain
@@ -210,11 +211,11 @@ module _ (bs : List ℕ) where
       → RepScan (length bs) (scanned listMarks bs) (scanned bitMarks bs)
   unfolding scanned
   sim-scanned a b c d =
-      seen-rel (RepScan (length bs)) (R bs) (scan listMarks bs (suc (R bs)) 0 (R bs) 168 3 0 [] 0)
-      (scan bitMarks bs (suc (R bs)) 0 (R bs) 168 3 0 (replicate 128 0) 0)
+      seen-rel (RepScan (length bs)) (R bs) (scan listMarks bs (suc (R bs)) 0 (R bs) blocks-at 3 0 [] 0)
+      (scan bitMarks bs (suc (R bs)) 0 (R bs) blocks-at 3 0 (replicate 128 0) 0)
       stray (λ n ms sum. scan listMarks bs (suc (length bs)) 1 (length bs) (E bs) 3 n ms sum) stray
       (λ n ms sum. scan bitMarks bs (suc (length bs)) 1 (length bs) (E bs) 3 n ms sum)
-      (sim-scan (suc (R bs)) 0 (R bs) 168 3 0 [] (replicate 128 0) 0 refl (omega arith) rep-empty (λ x l. count-nil x)) tt
+      (sim-scan (suc (R bs)) 0 (R bs) blocks-at 3 0 [] (replicate 128 0) 0 refl (omega arith) rep-empty (λ x l. count-nil x)) tt
       (λ n ms ws sum r fresh. sim-scan (suc (length bs)) 1 (length bs) (E bs) 3 n ms ws sum d c r (λ x l. fresh x (omega arith)))
 
   -- the whole
@@ -225,11 +226,12 @@ module _ (bs : List ℕ) where
       guard-rel (λ (a b : Bool). a ≡ b) (rest-tests bs) false _ false _ refl (λ rt.
       guard-rel (λ (a b : Bool). a ≡ b) (false-tests bs) false _ false _ refl (λ ft.
       seen-rel (λ (a b : Bool). a ≡ b) (length bs) (scanned listMarks bs) (scanned bitMarks bs)
-      false (λ n ms sum. guard (same (wordAt 4 bs 0) (sum + (E bs - R bs) - 4) ∷ []) false (lists listMarks bs n ms))
-      false (λ n ms sum. guard (same (wordAt 4 bs 0) (sum + (E bs - R bs) - 4) ∷ []) false (lists bitMarks bs n ms))
+      false (λ n ms sum. guard (same (wordAt 4 bs free-word-at) (sum + (E bs - R bs) - 4) ∷ []) false (lists listMarks bs n ms))
+      false (λ n ms sum. guard (same (wordAt 4 bs free-word-at) (sum + (E bs - R bs) - 4) ∷ []) false (lists bitMarks bs n ms))
       (sim-scanned (omega (arith, rt .1 .0)) (omega (arith, rt .1 .1 .0)) (allowed-inv (length bs) (st .0) .most) (rt .1 .1 .1 .1 .0)) refl
       (λ n ms ws sum r fresh.
-      guard-rel (λ (a b : Bool). a ≡ b) (same (wordAt 4 bs 0) (sum + (E bs - R bs) - 4) ∷ []) false _ false _ refl (λ ht.
+      guard-rel (λ (a b : Bool). a ≡ b) (same (wordAt 4 bs free-word-at) (sum + (E bs - R bs) - 4) ∷ []) false _ false _ refl (λ ht.
       left-rel (λ (a b : Bool). a ≡ b) (smalls listMarks bs 8 8 n ms) (smalls bitMarks bs 8 8 n ws)
-      false (λ k' ms'. chain listMarks bs (suc k') k' ms' 64 (nextBin bs 96)) false (λ k' ms'. chain bitMarks bs (suc k') k' ms' 64 (nextBin bs 96))
-      (sim-smalls 8 8 n ms ws r) refl (λ k' ms' ws' r'. sim-chain (suc k') k' ms' ws' 64 (nextBin bs 96) r'))))))
+      false (λ k' ms'. chain listMarks bs (suc k') k' ms' 64 (nextBin bs false-block))
+      false (λ k' ms'. chain bitMarks bs (suc k') k' ms' 64 (nextBin bs false-block))
+      (sim-smalls 8 8 n ms ws r) refl (λ k' ms' ws' r'. sim-chain (suc k') k' ms' ws' 64 (nextBin bs false-block) r'))))))
