@@ -16,6 +16,7 @@ use Rattle.paper.specs.Allowed.{Allowed}
 use Rattle.paper.specs.Bins.{first}
 use Rattle.paper.specs.Fresh.{fresh}
 use Rattle.paper.specs.Governed.{above, headerWord, index, reach, sheet, walk}
+use Rattle.paper.specs.Layout.{blocks-at, end-at, false-block, false-word-at, free-word-at, level-at, start-at}
 use Rattle.paper.specs.Sheet.{Sheet, write}
 use Rattle.serving.proofs.StoredSheet.{cleared-zeros, over, put-over, put-over-8, write-same, zeros}
 use Rattle.serving.specs.Models as model
@@ -25,7 +26,10 @@ use Rattle.words.specs.Words.{putAt}
 -- the sheet that the stores make, the last one outermost
 unfoldable stored : ℕ → Sheet
 stored n =
-    over 168 (4 * (n - 168) + 2) (over 108 1 (over 28 0 (over 24 n (over 20 0 (over 16 168 (over 12 0 (over 8 96 (over 4 0 (over 0 (n - 172) (zeros 42))))))))))
+    over blocks-at (4 * (n - blocks-at) + 2)
+    (over (false-block + level-at) 1
+    (over (end-at + 4) 0 (over end-at n (over (start-at + 4) 0 (over start-at blocks-at
+    (over (false-word-at + 4) 0 (over false-word-at false-block (over (free-word-at + 4) 0 (over free-word-at (n - 172) (zeros 42))))))))))
 
 module _ (n : ℕ) (A : Allowed n) where
   -- ---- the stores
@@ -49,11 +53,11 @@ module _ (n : ℕ) (A : Allowed n) where
       )
 
   -- ---- the paper's words
-  no-bins : (j y : ℕ) → above 1 (168 + (n - 168 + 0)) (λ z. []) j y ≡ 0
+  no-bins : (j y : ℕ) → above 1 (blocks-at + (n - blocks-at + 0)) (λ z. []) j y ≡ 0
   unfolding above reach first
   no-bins j y = seek-zero _ _ _ (λ w l. by< _ j (λ h. if<-yes _ j 0 0 h) (λ h. if<-no _ j 0 0 h))
 
-  header-zero : (a : ℕ) → a % 4 ≡ 0 → a < 96 → a ≢ 0 → a ≢ 8 → a ≢ 16 → a ≢ 24 → sheet (fresh 1 n) a ≡ some 0
+  header-zero : (a : ℕ) → a % 4 ≡ 0 → a < false-block → a ≢ free-word-at → a ≢ false-word-at → a ≢ start-at → a ≢ end-at → sheet (fresh 1 n) a ≡ some 0
   unfolding sheet fresh headerWord first
   header-zero a al l n0 n1 n2 n3 =
       if<-yes a 96 _ _ l
@@ -62,7 +66,7 @@ module _ (n : ℕ) (A : Allowed n) where
       ∙ if=-no (a / 8) 2 _ _ (omega arith) ∙ if=-no (a / 8) 3 _ _ (omega arith)))
       (λ m. if=-no (a % 8) 0 _ _ m)
 
-  false-zero : (a : ℕ) → 96 ≤ a → a < 168 → a ≢ 108 → sheet (fresh 1 n) a ≡ some 0
+  false-zero : (a : ℕ) → false-block ≤ a → a < blocks-at → a ≢ false-block + level-at → sheet (fresh 1 n) a ≡ some 0
   unfolding sheet fresh index linkWord
   false-zero a l h m =
       if<-no a 96 _ _ l ∙ if<-yes a 168 _ _ h ∙ if=-no (a - 96) 12 _ _ (omega arith)
@@ -71,13 +75,13 @@ module _ (n : ℕ) (A : Allowed n) where
       ∙ by< 64 (a - 96) (λ c. if<-yes 64 (a - 96) _ _ c)
       (λ c. if<-no 64 (a - 96) _ _ c ∙ ap some (if=-yes _ 0 _ _ (no-bins ((68 - (a - 96)) / 4) 64))))
 
-  head-word : sheet (fresh 1 n) 168 ≡ some (4 * (n - 168) + 2)
+  head-word : sheet (fresh 1 n) blocks-at ≡ some (4 * (n - blocks-at) + 2)
   unfolding sheet fresh walk if=
   head-word =
       let e : 4 * (n - 168) + 2 + 0 ≡ 4 * (n - 168) + 2 = omega arith in
       if<-no 168 96 _ _ (omega arith) ∙ if<-no 168 168 _ _ (omega arith) ∙ if<-yes 168 (168 + (n - 168)) _ _ (omega (arith, A .least)) ∙ ap some e
 
-  ungoverned : (a : ℕ) → 168 ≤ a → a ≢ 168 → a < n → sheet (fresh 1 n) a ≡ none
+  ungoverned : (a : ℕ) → blocks-at ≤ a → a ≢ blocks-at → a < n → sheet (fresh 1 n) a ≡ none
   unfolding sheet fresh walk
   ungoverned a l m h =
       if<-no a 96 _ _ (omega arith) ∙ if<-no a 168 _ _ (omega arith) ∙ if<-yes a (168 + (n - 168)) _ _ (omega arith)
@@ -98,7 +102,7 @@ module _ (n : ℕ) (A : Allowed n) where
       last : n ≡ 168 + 0 + (n - 168)
       last = omega (arith, A .least)
 
-  same-head : Same 168
+  same-head : Same blocks-at
   unfolding Same stored over
   same-head = if=-yes 168 168 _ _ refl ∙ sym head-word
 
