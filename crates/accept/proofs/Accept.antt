@@ -14,6 +14,7 @@ use Rattle.guards.proofs.Guards.{guard-yes}
 use Rattle.accept.proofs.MarkLists.{linked-from, listMarks, next-in, prev-in}
 use Rattle.accept.proofs.Passing.{chain-yes, smalls-yes}
 use Rattle.accept.proofs.Scanning.{Facts, Foot, Run, count-push, push, scan-yes}
+use Rattle.accept.proofs.Tested.{false-passes, rest-passes}
 use Rattle.header.specs.Header.{E, R, cleared, false-tests, rest-tests}
 use Rattle.runs.specs.Runs.{if-seen, Scanned, scan, seen, stray}
 use Rattle.heads.specs.Heads.{sizeAt}
@@ -293,45 +294,25 @@ module _ (bs : List ℕ) (s : State) (W : WellFormed s) (l : length bs ≡ end s
               { least = omega (arith, end-big bs s W l h); most = omega arith; eights = omega (arith, sized-eight (blocks s) (W .sized)) }),
           tt,
         )
-        ∙ guard-yes (rest-tests bs) false _ (
-          omega arith,
-          (
-            omega arith,
-            (
-              omega arith,
-              (
-                omega (arith, sized-eight (s .low) sized-low),
-                (
-                  omega (arith, sized-eight (s .low) sized-low),
-                  (ap (wordAt 4 bs) is-R ∙ rest-head ∙ omega arith ∙ sym (free-head (E bs - R bs) (omega arith)), tt),
-                ),
-              ),
-            ),
-          ),
-        )
-        ∙ guard-yes (false-tests bs) false _ (
-          false-is,
-          (
-            top-reads bs s W l h ∙ t1,
-            (
-              chain-word ∙ ap (linkWord false-block) (sym chain-on),
-              (
-                false-zero 68 (omega arith) refl (omega arith) (omega arith),
-                (
-                  cleared-yes bs 12 8 4 header-zero,
-                  (
-                    cleared-yes bs 3 4 false-block (λ i b. false-zero (4 * i) (omega arith) (omega arith) (omega arith) (omega arith)),
-                    (
-                      cleared-yes bs 12 4 (false-block + 16) (λ i b. ap (wordAt 4 bs) (omega arith)
-                          ∙ false-zero (16 + 4 * i) (omega arith) (omega arith) (omega arith) (omega arith)),
-                      (omega arith, tt),
-                    ),
-                  ),
-                ),
-              ),
-            ),
-          ),
-        )
+        ∙ guard-yes (rest-tests bs) false _ (rest-passes bs (record {
+          past-blocks = omega arith;
+          room = omega arith;
+          inside = omega arith;
+          start-eights = omega (arith, sized-eight (s .low) sized-low);
+          end-eights = omega (arith, sized-eight (s .low) sized-low);
+          head = ap (wordAt 4 bs) is-R ∙ rest-head ∙ omega arith ∙ sym (free-head (E bs - R bs) (omega arith));
+        }))
+        ∙ guard-yes (false-tests bs) false _ (false-passes bs (record {
+          false-word = false-is;
+          level-word = top-reads bs s W l h ∙ t1;
+          chain-word = chain-word ∙ ap (linkWord false-block) (sym chain-on);
+          past-chain = false-zero 68 (omega arith) refl (omega arith) (omega arith);
+          halves = cleared-yes bs 12 8 4 header-zero;
+          below-level = cleared-yes bs 3 4 false-block (λ i b. false-zero (4 * i) (omega arith) (omega arith) (omega arith) (omega arith));
+          reserved = cleared-yes bs 12 4 (false-block + 16) (λ i b. ap (wordAt 4 bs) (omega arith)
+              ∙ false-zero (16 + 4 * i) (omega arith) (omega arith) (omega arith) (omega arith));
+          long = omega arith;
+        }))
         ∙ ap (λ (m : Scanned (List ℕ)). if-seen m false
         (λ n ms sum. guard (same (wordAt 4 bs free-word-at) (sum + (E bs - R bs) - 4) ∷ []) false (lists listMarks bs n ms))) is-scanned
         ∙ guard-yes (same (wordAt 4 bs free-word-at) (freeSum (s .low) + freeSum (s .high) + (E bs - R bs) - 4) ∷ []) false _

@@ -11,10 +11,10 @@ use Rattle.heads.proofs.HeadLaws.{free-head}
 use Rattle.heads.specs.Links.{linkWord}
 use Rattle.accept.proofs.Accept.{run-after}
 use Rattle.accept.proofs.Chains.{LinkedL, LinkedS, false-true, large-sz, small-sz}
-use Rattle.guards.proofs.Guards.{All}
 use Rattle.accept.proofs.MarkLists.{linked-next, linked-prev, linked-tests, next-in}
 use Rattle.accept.proofs.Scanning.{Facts, Foot, Run, count-push, push}
-use Rattle.header.specs.Header.{E, R, cleared, rest-tests}
+use Rattle.accept.proofs.Tested.{RestStands}
+use Rattle.header.specs.Header.{E, R, cleared}
 use Rattle.lists.specs.Lists.{large-tests, nextLarge, nextSmall, small-tests}
 use Rattle.runs.specs.Runs.{small}
 use Rattle.heads.specs.Heads.{sizeAt}
@@ -80,9 +80,16 @@ cleared-inv bs (suc k) st a h i l =
     go zero l ih e = ap (wordAt 4 bs) (omega arith) ∙ e
     go (suc i) l ih e = ap (wordAt 4 bs) (omega arith) ∙ ih i (omega arith)
 
-module _ (bs : List ℕ) (by : Bytes bs) (al : Allowed (length bs)) (rt : All (rest-tests bs)) (xs ys : List Block)
-    (low-run : Run bs 0 1 xs) (low-facts : Facts bs xs blocks-at 1) (low-end : blocks-at + total xs ≡ R bs)
-    (high-run : Run bs 1 1 ys) (high-facts : Facts bs ys (E bs) 1) (high-end : E bs + total ys ≡ length bs) where
+-- two runs of blocks, up to R and from E on, whose words were read
+pub record Walked (bs : List ℕ) (xs ys : List Block) : Type 0 where
+  pub low-run : Run bs 0 1 xs
+  pub low-facts : Facts bs xs blocks-at 1
+  pub low-end : blocks-at + total xs ≡ R bs
+  pub high-run : Run bs 1 1 ys
+  pub high-facts : Facts bs ys (E bs) 1
+  pub high-end : E bs + total ys ≡ length bs
+
+module _ (bs : List ℕ) (by : Bytes bs) (al : Allowed (length bs)) (rt : RestStands bs) (xs ys : List Block) (walked : Walked bs xs ys) where
   abbrev rest : ℕ
   rest = E bs - R bs
 
@@ -93,7 +100,7 @@ module _ (bs : List ℕ) (by : Bytes bs) (al : Allowed (length bs)) (rt : All (r
   pool-end = blocks-at + total bl
 
   is-end : pool-end ≡ length bs
-  is-end = omega (arith, total-append xs (block rest remainder ∷ ys), rt .1 .0)
+  is-end = omega (arith, total-append xs (block rest remainder ∷ ys), rt .room)
 
   facts : Facts bs bl blocks-at 1
   facts q z k P i = go (in-split xs (block rest remainder ∷ ys) blocks-at 1 q (block z k) P i)
@@ -103,17 +110,17 @@ module _ (bs : List ℕ) (by : Bytes bs) (al : Allowed (length bs)) (rt : All (r
 
       go : In xs blocks-at 1 q (block z k) P ⊎ In (block rest remainder ∷ ys) (blocks-at + total xs) (flagPast 1 xs) q (block z k) P
           → (wordAt 4 bs q ≡ headWord z k P) × Foot bs q z k P
-      go (inl i) = low-facts q z k P i
+      go (inl i) = walked .low-facts q z k P i
       go (inr (inl i)) =
           let a : z ≡ rest = ap size (i .1) in
           let b : k ≡ remainder = ap kind (i .1) in
-          let c : P ≡ 1 = i .2 ∙ run-after bs 0 1 xs low-run in
-          rw (i .0, a, b, c) (ap (wordAt 4 bs) low-end ∙ rt .1 .1 .1 .1 .1 .0 ∙ free-head rest (omega (arith, al .most, rt .1 .1 .0)) ∙ omega arith, tt)
-      go (inr (inr i)) = high-facts q z k P (subst (λ (p : ℕ). In ys p 1 q (block z k) P) (omega (arith, rt .1 .0)) i)
+          let c : P ≡ 1 = i .2 ∙ run-after bs 0 1 xs (walked .low-run) in
+          rw (i .0, a, b, c) (ap (wordAt 4 bs) (walked .low-end) ∙ rt .head ∙ free-head rest (omega (arith, al .most, rt .inside)) ∙ omega arith, tt)
+      go (inr (inr i)) = walked .high-facts q z k P (subst (λ (p : ℕ). In ys p 1 q (block z k) P) (omega (arith, rt .room)) i)
 
   sized : Sized bl
-  sized = sized-append xs (block rest remainder ∷ ys) (run-sized bs 0 1 xs low-run)
-      ((omega (arith, rt .1 .0), omega (arith, rt .1 .0, rt .1 .1 .1 .0, rt .1 .1 .1 .1 .0)), run-sized bs 1 1 ys high-run)
+  sized = sized-append xs (block rest remainder ∷ ys) (run-sized bs 0 1 xs (walked .low-run))
+      ((omega (arith, rt .room), omega (arith, rt .room, rt .start-eights, rt .end-eights)), run-sized bs 1 1 ys (walked .high-run))
 
   in-size : (q z P : ℕ) → In bl blocks-at 1 q (block z free) P → sizeAt bs q ≡ z
   in-size q z P i = omega (arith, facts q z free P i .0, in-flag bl blocks-at 1 q (block z free) P (omega arith) i)
@@ -124,17 +131,17 @@ module _ (bs : List ℕ) (by : Bytes bs) (al : Allowed (length bs)) (rt : All (r
   is-marked : (x : ℕ) → count x marks ≡ freeAt bl blocks-at (sizeAt bs x) x
   unfolding freeAt
   is-marked x =
-      count-push bs ys (E bs) 1 (push xs blocks-at []) x (omega arith) high-facts
+      count-push bs ys (E bs) 1 (push xs blocks-at []) x (omega arith) (walked .high-facts)
       ∙ omega (
         arith,
-        count-push bs xs blocks-at 1 [] x (omega arith) low-facts,
+        count-push bs xs blocks-at 1 [] x (omega arith) (walked .low-facts),
         count-nil x,
         freeAt-append xs (block rest remainder ∷ ys) blocks-at (sizeAt bs x) x,
         ap (λ (k : ℕ). freeAt ys k (sizeAt bs x) x) past,
       )
     where
       past : blocks-at + total xs + rest ≡ E bs
-      past = omega (arith, rt .1 .0)
+      past = omega (arith, rt .room)
 
   pub sizes : (x : ℕ) → 1 ≤ count x marks → sizeAt bs x ≤ pool-end
   sizes x o = let r = freeAt-in bl blocks-at 1 (sizeAt bs x) x (omega (arith, is-marked x)) in
@@ -166,8 +173,8 @@ module _ (bs : List ℕ) (by : Bytes bs) (al : Allowed (length bs)) (rt : All (r
     wf : WellFormed s
     wf = record {
       layout = lay;
-      low-ok = run-low bs xs low-run;
-      high-ok = run-high bs ys high-run;
+      low-ok = run-low bs xs (walked .low-run);
+      high-ok = run-high bs ys (walked .high-run);
       sized = sized;
       fits = omega
           (arith, is-end, al .most);
@@ -264,8 +271,8 @@ module _ (bs : List ℕ) (by : Bytes bs) (al : Allowed (length bs)) (rt : All (r
         by= w 0 (λ e. ap (λ (k : ℕ). wordAt 4 bs (8 * k)) e ∙ free-word ∙ omega (arith, freeSum-append xs (block rest remainder ∷ ys))
         ∙ sym (if=-yes w 0 _ _ e))
         (λ n0. by= w 1 (λ e. ap (λ (k : ℕ). wordAt 4 bs (8 * k)) e ∙ false-word ∙ sym (if=-no w 0 _ _ n0 ∙ if=-yes w 1 _ _ e))
-        (λ n1. by= w 2 (λ e. ap (λ (k : ℕ). wordAt 4 bs (8 * k)) e ∙ sym low-end ∙ sym (if=-no w 0 _ _ n0 ∙ if=-no w 1 _ _ n1 ∙ if=-yes w 2 _ _ e))
-        (λ n2. by= w 3 (λ e. ap (λ (k : ℕ). wordAt 4 bs (8 * k)) e ∙ omega (arith, rt .1 .0)
+        (λ n1. by= w 2 (λ e. ap (λ (k : ℕ). wordAt 4 bs (8 * k)) e ∙ sym (walked .low-end) ∙ sym (if=-no w 0 _ _ n0 ∙ if=-no w 1 _ _ n1 ∙ if=-yes w 2 _ _ e))
+        (λ n2. by= w 3 (λ e. ap (λ (k : ℕ). wordAt 4 bs (8 * k)) e ∙ omega (arith, rt .room)
         ∙ sym (if=-no w 0 _ _ n0 ∙ if=-no w 1 _ _ n1 ∙ if=-no w 2 _ _ n2 ∙ if=-yes w 3 _ _ e))
         (λ n3. ap (wordAt 4 bs) (omega arith) ∙ sym (firsts (8 * (w - 3)) (omega arith) (omega arith) (omega arith))
         ∙ sym (if=-no w 0 _ _ n0 ∙ if=-no w 1 _ _ n1 ∙ if=-no w 2 _ _ n2 ∙ if=-no w 3 _ _ n3)))))

@@ -8,11 +8,12 @@ use native.Mathlib.Omega.{arith}
 use lib.ListN.{length}
 use Rattle.heads.specs.Links.{linkWord}
 use Rattle.accept.proofs.Accept.{accepts}
-use Rattle.accept.proofs.Build.{TopsTo, built, cleared-inv, marks, pool-end, sizes}
+use Rattle.accept.proofs.Build.{TopsTo, Walked, built, cleared-inv, marks, pool-end, sizes}
 use Rattle.accept.proofs.Chains.{LinkedL, Tops, chain-inv, false-true, inv-left, smalls-inv}
-use Rattle.guards.proofs.Guards.{All, guard-inv}
+use Rattle.guards.proofs.Guards.{guard-inv}
 use Rattle.accept.proofs.MarkLists.{listMarks}
-use Rattle.accept.proofs.Scanning.{Facts, Run, push, scan-inv, stray-seen}
+use Rattle.accept.proofs.Scanning.{push, scan-inv, stray-seen}
+use Rattle.accept.proofs.Tested.{FalseStands, RestStands, false-stands, rest-stands}
 use Rattle.header.specs.Header.{E, R, false-tests, rest-tests}
 use Rattle.runs.specs.Runs.{if-seen, Scanned, scan, seen, stray}
 use Rattle.accept.specs.Inspect.{inspect, scanned, size-tests}
@@ -23,7 +24,7 @@ use Rattle.paper.proofs.bins.Seek.{seek-cong}
 use Rattle.paper.proofs.sheet.Fields.{height-one}
 use Rattle.paper.specs.Allowed.{Allowed}
 use Rattle.paper.specs.Bins.{first, seek}
-use Rattle.paper.specs.Blocks.{Block, freeSum, total}
+use Rattle.paper.specs.Blocks.{Block, freeSum}
 use Rattle.paper.specs.Governed.{above, height, reach}
 use Rattle.paper.specs.Layout.{blocks-at, chain-at, false-block, free-word-at, level-at}
 use Rattle.paper.specs.Sound.{Sound}
@@ -49,35 +50,33 @@ tops-one bs n b u h nz =
           (r .1 ∙ ap (linkWord (first (b u))) (sym (above-one n b u))),
     )
 
-pub false-zero : (bs : List ℕ) → All (false-tests bs) → (o : ℕ) → o < 72 → o % 4 ≡ 0 → o ≢ level-at
+pub false-zero : (bs : List ℕ) → FalseStands bs → (o : ℕ) → o < 72 → o % 4 ≡ 0 → o ≢ level-at
     → (o < chain-at) ⊎ (chain-at < o) → wordAt 4 bs (false-block + o) ≡ 0
 false-zero bs ft o l o4 n12 (inl c) =
-    by< o level-at (λ d. ap (wordAt 4 bs) (omega arith) ∙ cleared-inv bs 3 4 false-block (ft .1 .1 .1 .1 .1 .0) (o / 4) (omega arith))
-    (λ d. ap (wordAt 4 bs) (omega arith) ∙ cleared-inv bs 12 4 (false-block + 16) (ft .1 .1 .1 .1 .1 .1 .0) ((o - 16) / 4) (omega arith))
-false-zero bs ft o l o4 n12 (inr c) = ap (wordAt 4 bs) (omega arith) ∙ ft .1 .1 .1 .0
+    by< o level-at (λ d. ap (wordAt 4 bs) (omega arith) ∙ cleared-inv bs 3 4 false-block (ft .below-level) (o / 4) (omega arith))
+    (λ d. ap (wordAt 4 bs) (omega arith) ∙ cleared-inv bs 12 4 (false-block + 16) (ft .reserved) ((o - 16) / 4) (omega arith))
+false-zero bs ft o l o4 n12 (inr c) = ap (wordAt 4 bs) (omega arith) ∙ ft .past-chain
 
-module _ (bs : List ℕ) (by : Bytes bs) (al : Allowed (length bs)) (rt : All (rest-tests bs)) (xs ys : List Block)
-    (low-run : Run bs 0 1 xs) (low-facts : Facts bs xs blocks-at 1) (low-end : blocks-at + total xs ≡ R bs)
-    (high-run : Run bs 1 1 ys) (high-facts : Facts bs ys (E bs) 1) (high-end : E bs + total ys ≡ length bs)
+module _ (bs : List ℕ) (by : Bytes bs) (al : Allowed (length bs)) (rt : RestStands bs) (xs ys : List Block) (walked : Walked bs xs ys)
     (free-word : wordAt 4 bs free-word-at ≡ freeSum xs + freeSum ys + (E bs - R bs) - 4) where
   abbrev ms : List ℕ
-  ms = marks bs by al rt xs ys low-run low-facts low-end high-run high-facts high-end
+  ms = marks bs by al rt xs ys walked
 
   abbrev m : ℕ
-  m = pool-end bs by al rt xs ys low-run low-facts low-end high-run high-facts high-end
+  m = pool-end bs by al rt xs ys walked
 
-  from-lists : All (false-tests bs) → lists listMarks bs (length ms) ms ≡ true → Sound bs
+  from-lists : FalseStands bs → lists listMarks bs (length ms) ms ≡ true → Sound bs
   unfolding lists
   from-lists ft h =
       let a = inv-left (smalls listMarks bs 8 8 (length ms) ms) false true
       (λ k ms'. chain listMarks bs (suc k) k ms' 64 (nextBin bs false-block)) false-true h in
       let c = smalls-inv bs 8 8 (length ms) ms (a .0) (a .1) refl refl refl (a .2) in
       let B = chain-inv bs m (suc (a .0)) (a .0) (a .1) 64 (nextBin bs false-block) (c .0)
-      (λ x o. sizes bs by al rt xs ys low-run low-facts low-end high-run high-facts high-end x (omega (arith, c .1 x))) (a .3) in
+      (λ x o. sizes bs by al rt xs ys walked x (omega (arith, c .1 x))) (a .3) in
       let S = c .2 (B .bin) (B .below) (B .all) in
       let past : (u : ℕ) → 64 ≤ u → seek (λ (v : ℕ). first (B .bin v)) m (suc u) ≡ seek (λ (v : ℕ). first (S .bin v)) m (suc u) =
       λ u l. seek-cong _ _ m (suc u) (λ v k. ap first (sym (S .above v (omega arith)))) in
-      built bs by al rt xs ys low-run low-facts low-end high-run high-facts high-end 1 (inl refl) (omega arith) free-word (S .bin) (S .linked)
+      built bs by al rt xs ys walked 1 (inl refl) (omega arith) free-word (S .bin) (S .linked)
       (λ u l. subst (LinkedL bs u) (sym (S .above u l)) (B .linked u))
       (λ u a b c. S .firsts u a b c)
       (λ u l. tops-one bs m (S .bin) u (λ nz. let e = S .above u l in
@@ -87,10 +86,10 @@ module _ (bs : List ℕ) (by : Bytes bs) (al : Allowed (length bs)) (rt : All (r
             ∙ ap (λ (q : List ℕ). linkWord (first q) (seek (λ (v : ℕ). first (B .bin v)) m (suc u))) (sym e)
             ∙ ap (linkWord (first (S .bin u))) (past u (omega arith)),
       )))
-      (ft .0) (ft .1 .0) (cleared-inv bs 12 8 4 (ft .1 .1 .1 .1 .0)) (false-zero bs ft)
+      (ft .false-word) (ft .level-word) (cleared-inv bs 12 8 4 (ft .halves)) (false-zero bs ft)
       (λ j j1 jt. let e : j ≡ 1 = omega arith in
       subst (λ (i : ℕ). wordAt 4 bs (false-block + (68 - 4 * i)) ≡ linkWord false-block (above 1 m (S .bin) i 64)) (sym e)
-      (ft .1 .1 .0 ∙ ap (linkWord false-block) (B .begins ∙ past 64 (omega arith) ∙ sym (above-one m (S .bin) 64))))
+      (ft .chain-word ∙ ap (linkWord false-block) (B .begins ∙ past 64 (omega arith) ∙ sym (above-one m (S .bin) 64))))
       (S .all)
 
 module _ (bs : List ℕ) where
@@ -108,8 +107,9 @@ module _ (bs : List ℕ) where
       let lo = scan-inv bs (suc (R bs)) 0 (R bs) blocks-at 1 0 [] 0 (s2 .0) (s2 .1) (s2 .2) (omega arith) (omega arith) refl (s2 .3) in
       let hi = scan-inv bs (suc (length bs)) 1 (length bs) (E bs) 1 (s2 .0) (s2 .1) (s2 .2) (s1 .0) (s1 .1) (s1 .2) (omega arith) (omega arith)
       (lo .6) (s2 .4) in
-      from-lists bs by (allowed-inv (length bs) (g1 .0 .0)) (g2 .0) (lo .0) (hi .0) (lo .1) (lo .2) (lo .3) (hi .1) (hi .2) (hi .3)
-      (g4 .0 .0 ∙ ap (λ (v : ℕ). v + (E bs - R bs) - 4) (omega (arith, lo .5, hi .5))) (g3 .0)
+      from-lists bs by (allowed-inv (length bs) (g1 .0 .0)) (rest-stands bs (g2 .0)) (lo .0) (hi .0)
+      (record { low-run = lo .1; low-facts = lo .2; low-end = lo .3; high-run = hi .1; high-facts = hi .2; high-end = hi .3 })
+      (g4 .0 .0 ∙ ap (λ (v : ℕ). v + (E bs - R bs) - 4) (omega (arith, lo .5, hi .5))) (false-stands bs (g3 .0))
       (subst (λ (v : List ℕ). lists listMarks bs (length v) v ≡ true) (hi .4 ∙ ap (push (hi .0) (E bs)) (lo .4))
       (subst (λ (v : ℕ). lists listMarks bs v (s1 .1) ≡ true) (hi .6) (g4 .1)))
 

@@ -2,6 +2,7 @@ pub mod MarkLists
 pub mod Scanning
 pub mod Chains
 pub mod Passing
+pub mod Tested
 pub mod Accept
 pub mod Build
 pub mod Simulation

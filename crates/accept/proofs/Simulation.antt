@@ -8,6 +8,7 @@ use native.Mathlib.Omega.{arith}
 use lib.ListN.{List·getD-eq-default, getD, getD-replicate, length, length-replicate, replicate}
 use Rattle.guards.proofs.Guards.{All}
 use Rattle.accept.proofs.MarkLists.{count-remove, listMarks, remove}
+use Rattle.accept.proofs.Tested.{rest-stands}
 use Rattle.header.specs.Header.{E, R, false-tests, rest-tests}
 use Rattle.runs.specs.Runs.{if-seen, Scanned, fit-tests, free-tests, scan, seen, stray}
 use Rattle.heads.specs.Heads.{sizeAt}
@@ -223,12 +224,12 @@ module _ (bs : List ℕ) where
   unfolding inspect lists
   sim-inspect =
       guard-rel (λ (a b : Bool). a ≡ b) (size-tests bs) false _ false _ refl (λ st.
-      guard-rel (λ (a b : Bool). a ≡ b) (rest-tests bs) false _ false _ refl (λ rt.
+      guard-rel (λ (a b : Bool). a ≡ b) (rest-tests bs) false _ false _ refl (λ rt. let rest = rest-stands bs rt in
       guard-rel (λ (a b : Bool). a ≡ b) (false-tests bs) false _ false _ refl (λ ft.
       seen-rel (λ (a b : Bool). a ≡ b) (length bs) (scanned listMarks bs) (scanned bitMarks bs)
       false (λ n ms sum. guard (same (wordAt 4 bs free-word-at) (sum + (E bs - R bs) - 4) ∷ []) false (lists listMarks bs n ms))
       false (λ n ms sum. guard (same (wordAt 4 bs free-word-at) (sum + (E bs - R bs) - 4) ∷ []) false (lists bitMarks bs n ms))
-      (sim-scanned (omega (arith, rt .1 .0)) (omega (arith, rt .1 .1 .0)) (allowed-inv (length bs) (st .0) .most) (rt .1 .1 .1 .1 .0)) refl
+      (sim-scanned (omega (arith, rest .room)) (omega (arith, rest .inside)) (allowed-inv (length bs) (st .0) .most) (rest .end-eights)) refl
       (λ n ms ws sum r fresh.
       guard-rel (λ (a b : Bool). a ≡ b) (same (wordAt 4 bs free-word-at) (sum + (E bs - R bs) - 4) ∷ []) false _ false _ refl (λ ht.
       left-rel (λ (a b : Bool). a ≡ b) (smalls listMarks bs 8 8 n ms) (smalls bitMarks bs 8 8 n ws)
