@@ -2,6 +2,7 @@
 use crate::input;
 use crate::input::Number;
 use crate::output;
+use paper::Answer;
 
 // How a command ended: its line is written, or it could not be read, or its line is lost.
 pub enum Outcome {
@@ -45,18 +46,15 @@ fn image(buffer: &mut [u8]) -> Next {
     if !input::fill(&mut buffer[..n]) {
         return Next::Unreadable;
     }
-    goes_on(
-        n,
-        ended(output::text(b"I 0") && output::spaced(k) && output::end_of_line()),
-    )
+    goes_on(n, ended(output::line(b'I', Answer::Done(k))))
 }
 
 // T, G, A: a call with one number.
 fn with_number(pool: &mut [u8], letter: u8, v: u32) -> bool {
     match letter {
-        b'T' => output::line(b"T", pool::take(pool, v)),
-        b'G' => output::line(b"G", pool::give_back(pool, v)),
-        b'A' => output::line(b"A", pool::ask(pool, v)),
+        b'T' => output::line(b'T', pool::take(pool, v)),
+        b'G' => output::line(b'G', pool::give_back(pool, v)),
+        b'A' => output::line(b'A', pool::ask(pool, v)),
         _ => read_part(pool, v),
     }
 }
@@ -65,8 +63,7 @@ fn with_number(pool: &mut [u8], letter: u8, v: u32) -> bool {
 fn read_part(pool: &[u8], offset: u32) -> bool {
     let answer = pool::ask(pool, offset);
     let part = pool::lend(pool, offset);
-    output::text(b"P")
-        && output::answer(answer)
+    output::begin(b'P', answer)
         && output::spaced(length_of(part))
         && output::hex(part)
         && output::end_of_line()
@@ -100,12 +97,7 @@ fn write_from(pool: &mut [u8], offset: u32, body: &mut [u8]) -> Outcome {
     let part = pool::lend_mut(pool, offset);
     let length = length_of(part);
     copy(part, body);
-    ended(
-        output::text(b"W")
-            && output::answer(answer)
-            && output::spaced(length)
-            && output::end_of_line(),
-    )
+    ended(output::begin(b'W', answer) && output::spaced(length) && output::end_of_line())
 }
 
 // The bytes of `from`, as far as `to` reaches.
@@ -135,7 +127,7 @@ fn classes(pool: &[u8]) -> Outcome {
 
 fn count_into(pool: &[u8], counts: &mut [u32]) -> bool {
     let answer = pool::class_count(pool, counts);
-    output::text(b"C") && output::answer(answer) && counters(counts) && output::end_of_line()
+    output::begin(b'C', answer) && counters(counts) && output::end_of_line()
 }
 
 fn counters(counts: &[u32]) -> bool {
@@ -151,17 +143,14 @@ fn counters(counts: &[u32]) -> bool {
 
 // D: all bytes.
 fn dump(pool: &[u8]) -> bool {
-    output::text(b"D 0")
-        && output::spaced(length_of(pool))
-        && output::hex(pool)
-        && output::end_of_line()
+    output::begin(b'D', Answer::Done(length_of(pool))) && output::hex(pool) && output::end_of_line()
 }
 
 // A command on the pool.
 fn on_pool(pool: &mut [u8], body: &mut [u8], letter: u8) -> Outcome {
     match letter {
-        b'L' => ended(output::line(b"L", pool::lay_out(pool))),
-        b'N' => ended(output::line(b"N", pool::inspect(pool))),
+        b'L' => ended(output::line(b'L', pool::lay_out(pool))),
+        b'N' => ended(output::line(b'N', pool::inspect(pool))),
         b'S' => ended(output::tally(pool::figures(pool))),
         b'D' => ended(dump(pool)),
         b'C' => classes(pool),

@@ -4,7 +4,7 @@ use paper::Answer;
 use paper::Figures;
 use paper::Tally;
 
-pub fn text(s: &[u8]) -> bool {
+fn text(s: &[u8]) -> bool {
     streams::write(s)
 }
 
@@ -30,17 +30,21 @@ fn numbers(first: u32, second: u32) -> bool {
     spaced(first) && spaced(second)
 }
 
-// An answer's number and value.
-pub fn answer(a: Answer) -> bool {
+fn answer(a: Answer) -> bool {
     match a {
         Answer::Done(v) => numbers(0, v),
         Answer::Refused(k) => numbers(k as u32, 0),
     }
 }
 
+// The letter that a line begins with, and an answer's number and value.
+pub fn begin(letter: u8, a: Answer) -> bool {
+    text(&[letter]) && answer(a)
+}
+
 // A whole line of a call.
-pub fn line(letter: &[u8], a: Answer) -> bool {
-    text(letter) && answer(a) && end_of_line()
+pub fn line(letter: u8, a: Answer) -> bool {
+    begin(letter, a) && end_of_line()
 }
 
 fn figures(f: Figures) -> bool {
