@@ -12,7 +12,7 @@ use Rattle.records.specs.declared.request.Record.{Record}
 use Rattle.records.specs.declared.request.Record.the-variants.{Whole, Unreadable}
 use Rattle.records.specs.Records.{readAt}
 use Rattle.records.proofs.Records.{Onward, onward}
-use Rattle.tape.specs.Lines.{lineOf, Printed, letterOf}
+use Rattle.lines.specs.Lines.{lineOf, Printed, letterOf}
 use Rattle.tape.specs.Serve.{Pool, pool, serve}
 use Rattle.tape.specs.Step.{Stepped}
 use Rattle.tape.specs.Run.{Run, run, then, x-line, longest, runFrom, runOf, left, leaves}

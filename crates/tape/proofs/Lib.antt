@@ -1,5 +1,4 @@
 pub mod First
-pub mod Print
 pub mod Steps
 pub mod Going
 pub mod Leaves

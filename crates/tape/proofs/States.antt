@@ -42,7 +42,7 @@ use Rattle.records.specs.declared.request.Request.the-variants.{LayOut, Take, G
 use Rattle.records.specs.declared.request.Record.{Record}
 use Rattle.records.specs.declared.request.Record.the-variants.{Whole, Unreadable}
 use Rattle.records.specs.Records.{readAt}
-use Rattle.tape.specs.Lines.{lineOf, answered, tallied, letterOf}
+use Rattle.lines.specs.Lines.{lineOf, answered, tallied, letterOf}
 use Rattle.tape.specs.Run.{Run, byRecord, longest, run, runFrom, runOf, then, x-line}
 use Rattle.tape.proofs.First.{in-the-buffer, past-the-buffer}
 use Rattle.tape.specs.Serve.{Pool, Outcome, answers, figuresFirst, laidOut, onFirst, pool, serve}

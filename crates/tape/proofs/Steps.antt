@@ -7,7 +7,7 @@ use Rattle.paper.specs.declared.Answer.{Answer}
 use Rattle.paper.specs.declared.Tally.{Tally}
 use Rattle.pool.specs.Calls.{layOut, take, giveBack}
 use Rattle.records.specs.declared.request.Request.the-variants.{LayOut, Take, GiveBack, Figures}
-use Rattle.tape.specs.Lines.{lineOf, answered, tallied, Printed, letterOf}
+use Rattle.lines.specs.Lines.{lineOf, answered, tallied, Printed, letterOf}
 use Rattle.tape.specs.Serve.{pool, onFirst, figuresFirst, accepted, serve}
 use Rattle.tape.specs.Step.{Stepped}
 

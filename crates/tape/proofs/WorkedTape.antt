@@ -22,7 +22,7 @@ use Rattle.paper.specs.Granting.{choose, chooseLarge, chooseSmall, cutHigh, cut
 use Rattle.paper.specs.LookingUp.{blockAt, lookUp}
 use Rattle.paper.specs.Runs.{endsAt, from, replace, startsAt, sumOf, under}
 use Rattle.records.specs.Records.{readAt, withBody}
-use Rattle.tape.specs.Lines.{beginOf, lineOf, restOf}
+use Rattle.lines.specs.Lines.{beginOf, lineOf, restOf}
 use Rattle.tape.specs.Run.{runOf}
 use Rattle.tape.proofs.States.{lines-by-states, linesFrom, serveState}
 

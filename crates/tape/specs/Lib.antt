@@ -1,4 +1,3 @@
-pub mod Lines
 pub mod Serve
 pub mod Step
 pub mod Run

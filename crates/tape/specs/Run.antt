@@ -10,7 +10,7 @@ use Rattle.records.specs.declared.request.Request.{Request}
 use Rattle.records.specs.declared.request.Record.{Record}
 use Rattle.records.specs.declared.request.Record.the-variants.{Whole, Unreadable}
 use Rattle.records.specs.Records.{readAt}
-use Rattle.tape.specs.Lines.{lineOf, letterOf}
+use Rattle.lines.specs.Lines.{lineOf, letterOf}
 use Rattle.tape.specs.Serve.{Pool, pool, serve}
 
 -- the lines that are printed, and the pool at the end

@@ -12,7 +12,7 @@ use Rattle.paper.specs.declared.Tally.the-variants.{Refused as Uncounted}
 use Rattle.pool.specs.Calls.{layOut, take, giveBack, figures}
 use Rattle.records.specs.declared.request.Request.{Request}
 use Rattle.records.specs.declared.request.Request.the-variants.{LayOut, Take, GiveBack, Figures}
-use Rattle.tape.specs.Lines.{answered, tallied}
+use Rattle.lines.specs.Lines.{answered, tallied}
 
 -- the run's pool is the first n bytes of its buffer
 pub record Pool : Type 0 where

@@ -3,7 +3,7 @@ use mathlib.Core.Path.{_≡_}
 use mathlib.Core.List.{List}
 use Prim.Native.Nat.{ℕ}
 use Rattle.records.specs.declared.request.Request.{Request}
-use Rattle.tape.specs.Lines.{lineOf, Printed, letterOf}
+use Rattle.lines.specs.Lines.{lineOf, Printed, letterOf}
 use Rattle.tape.specs.Serve.{Pool, pool, serve}
 
 -- the pool after the request has size n and the buffer `after`, and the line stands at its place of `out`

@@ -5,7 +5,6 @@ use records::Record;
 use records::record_at;
 
 mod calls;
-mod lines;
 mod serve;
 
 // The longest tape that is run, in bytes.

@@ -4,7 +4,6 @@ ghost use Rattle.tape.specs.Serve as tape;
 ghost use Rattle.tape.specs.Serve.{pool};
 ghost use Rattle.tape.specs.Step.{Stepped};
 use crate::calls;
-use crate::lines;
 use paper::Answer;
 use records::Request;
 

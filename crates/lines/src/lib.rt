@@ -4,7 +4,7 @@ ghost use mathlib.Core.Path.{_≡_};
 ghost use mathlib.Core.List.{[], _∷_};
 ghost use Rattle.text.specs.Page.{page, put};
 ghost use Rattle.text.specs.Numeral.{numeral};
-ghost use Rattle.tape.specs.Lines.{space, beginOf, restOf, lineOf, answered, tallied, Printed};
+ghost use Rattle.lines.specs.Lines.{space, beginOf, restOf, lineOf, answered, tallied, Printed};
 ghost use Rattle.paper.specs.Answers.{sevenOf};
 use paper::Answer;
 use paper::Figures;

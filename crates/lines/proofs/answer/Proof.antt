@@ -1,7 +1,7 @@
--- tape::lines::answer meets its contract: each kind of answer prints its number and value.
+-- lines::answer meets its contract: each kind of answer prints its number and value.
 use borrow.Author.Needs.{needs}
-use Rattle.tape.proofs.lines.answer.Statement.{statement}
-use Rattle.tape.proofs.lines.answer.Tie as tie
+use Rattle.lines.proofs.answer.Statement.{statement}
+use Rattle.lines.proofs.answer.Tie as tie
 
 pub answer-spec : {M : Type 1} → statement M
 answer-spec =

@@ -8,7 +8,7 @@ use Rattle.text.specs.Page.{Page, putOne, put}
 use Rattle.text.specs.Numeral.{numeral}
 use Rattle.text.proofs.Page.{put-append}
 use Rattle.text.proofs.Digits.{numeral-length}
-use Rattle.tape.specs.Lines.{space, newline, beginOf, restOf, lineOf}
+use Rattle.lines.specs.Lines.{space, newline, beginOf, restOf, lineOf}
 
 -- ---- the page
 

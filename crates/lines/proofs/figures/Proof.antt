@@ -1,9 +1,9 @@
--- tape::lines::figures meets its contract: each kind of tally prints its numbers.
+-- lines::figures meets its contract: each kind of tally prints its numbers.
 use native.Mathlib.Omega.{arith}
 use borrow.Author.Needs.{needs}
-use Rattle.tape.proofs.Print.{figures-line, line-short}
-use Rattle.tape.proofs.lines.figures.Statement.{statement}
-use Rattle.tape.proofs.lines.figures.Tie as tie
+use Rattle.lines.proofs.Print.{figures-line, line-short}
+use Rattle.lines.proofs.figures.Statement.{statement}
+use Rattle.lines.proofs.figures.Tie as tie
 
 returns : tie.Need-returns
 returns c =

@@ -1,8 +1,8 @@
--- tape::lines::number meets its contract: a space, and the numeral after it.
+-- lines::number meets its contract: a space, and the numeral after it.
 use borrow.Author.Needs.{needs}
 use Rattle.text.specs.Page.{put}
-use Rattle.tape.proofs.lines.number.Statement.{statement}
-use Rattle.tape.proofs.lines.number.Tie as tie
+use Rattle.lines.proofs.number.Statement.{statement}
+use Rattle.lines.proofs.number.Tie as tie
 
 returns : tie.Need-returns
 unfolding put

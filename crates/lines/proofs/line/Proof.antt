@@ -1,9 +1,9 @@
--- tape::lines::line meets its contract: the line is put piece by piece, and its numbers have at most ten digits.
+-- lines::line meets its contract: the line is put piece by piece, and its numbers have at most ten digits.
 use native.Mathlib.Omega.{arith}
 use borrow.Author.Needs.{needs}
-use Rattle.tape.proofs.Print.{pieces, line-short}
-use Rattle.tape.proofs.lines.line.Statement.{statement}
-use Rattle.tape.proofs.lines.line.Tie as tie
+use Rattle.lines.proofs.Print.{pieces, line-short}
+use Rattle.lines.proofs.line.Statement.{statement}
+use Rattle.lines.proofs.line.Tie as tie
 
 returns : tie.Need-returns
 returns c =

@@ -1,8 +1,8 @@
--- tape::lines::seven meets its contract: the figures are put one after the other.
+-- lines::seven meets its contract: the figures are put one after the other.
 use borrow.Author.Needs.{needs}
-use Rattle.tape.proofs.Print.{pieces}
-use Rattle.tape.proofs.lines.seven.Statement.{statement}
-use Rattle.tape.proofs.lines.seven.Tie as tie
+use Rattle.lines.proofs.Print.{pieces}
+use Rattle.lines.proofs.seven.Statement.{statement}
+use Rattle.lines.proofs.seven.Tie as tie
 
 returns : tie.Need-returns
 returns c = simp pieces (cc)

@@ -1,10 +1,10 @@
--- tape::lines::begin meets its contract: the numeral and the two bytes after it, put one after the other.
+-- lines::begin meets its contract: the numeral and the two bytes after it, put one after the other.
 use borrow.Author.Needs.{needs}
 use Rattle.text.specs.Page.{put}
 use Rattle.text.proofs.Page.{put-append}
-use Rattle.tape.specs.Lines.{beginOf}
-use Rattle.tape.proofs.lines.begin.Statement.{statement}
-use Rattle.tape.proofs.lines.begin.Tie as tie
+use Rattle.lines.specs.Lines.{beginOf}
+use Rattle.lines.proofs.begin.Statement.{statement}
+use Rattle.lines.proofs.begin.Tie as tie
 
 returns : tie.Need-returns
 unfolding beginOf put
