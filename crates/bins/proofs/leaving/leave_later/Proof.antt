@@ -23,9 +23,9 @@ returns-2 c =
       if=-no _ _ _ _ (λ e. m3 .if1 .left (m3 .before .linked .ensures ∙ e)),
       m1 .put-field3 .ensures,
       m2 .put-field2 .ensures,
-      m2 .before .before .both-ways .ensures .0,
-      m2 .before .before .both-ways .ensures .1,
-      m3 .before .linked .ensures,
+      ← m3 .before .linked .ensures,
+      ← m2 .before .before .both-ways .ensures .0,
+      ← m2 .before .before .both-ways .ensures .1,
     )
 
 pub leave-later-spec : {M : Type 1} → statement M

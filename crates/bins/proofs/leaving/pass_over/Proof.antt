@@ -9,7 +9,7 @@ unfolding passOver
 returns c =
     let m1 = c .before .before in
     let m2 = m1 .before .before .before in
-    rw (m1 .put-field .ensures, m1 .before .link-word .ensures, m2 .linked .ensures)
+    rw (m1 .put-field .ensures, m1 .before .link-word .ensures, ← m2 .linked .ensures)
 
 pub pass-over-spec : {M : Type 1} → statement M
 pass-over-spec =

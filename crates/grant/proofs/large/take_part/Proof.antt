@@ -6,11 +6,7 @@ use Rattle.grant.proofs.large.take_part.Tie as tie
 
 returns : tie.Need-returns
 unfolding takePart
-returns c =
-    let m1 = c .before .before in
-    let m2 = m1 .before .before .before .before in
-    let m3 = m2 .before .before .before .before .before in
-    rw (← m1 .granted .ensures, m2 .split .ensures, m2 .before .size .ensures, m3 .take-out .ensures .after, m3 .take-out .ensures .block)
+returns c = cc
 
 pub take-part-spec : {M : Type 1} → statement M
 take-part-spec =
