@@ -1,7 +1,7 @@
 -- bins::take_out meets its contract, by the test on the second block.
-use Rattle.bins.specs.Leave.{leaveLater, usedIn, takeOut}
+use Rattle.bins.specs.Leave.{usedIn, takeOut}
 use Rattle.words.specs.Choice.{if=-yes, if=-no}
-use mathlib.Core.Path.{ap, sym, _∙_}
+use mathlib.Core.Path.{sym, _∙_}
 use borrow.Author.Needs.{needs}
 use Rattle.bins.proofs.leaving.take_out.Statement.{statement}
 use Rattle.bins.proofs.leaving.take_out.Tie as tie
@@ -18,10 +18,7 @@ unfolding usedIn takeOut
 returns-2 c =
     let l = c .before .before .before .before .before .linked .ensures in
     let n = c .before .before .before .before .if1 .left in
-    record {
-      block = l ∙ sym (if=-no _ _ _ _ (λ e. n (l ∙ e)));
-      after = c .before .before .leave-later .ensures ∙ ap (leaveLater _ _) l ∙ sym (if=-no _ _ _ _ (λ e. n (l ∙ e)));
-    }
+    record { block = rw (if=-no _ _ _ _ (λ e. n (l ∙ e))) (cc); after = rw (if=-no _ _ _ _ (λ e. n (l ∙ e))) (cc) }
 
 pub take-out-spec : {M : Type 1} → statement M
 take-out-spec =

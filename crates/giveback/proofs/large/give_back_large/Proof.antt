@@ -12,8 +12,7 @@ returns c =
     rw (
       ← c .before .before .before .before .before .before .before .plus .ensures,
       if=-yes _ _ _ _ (c .before .before .before .before .if1 .taken ∙ c .before .before .before .before .before .get32 .ensures),
-      ← c .before .before .before .before .before .before .before .before .run-start .ensures,
-    ) (c .before .before .join-rest .ensures)
+    ) (cc)
 
 returns-2 : tie.Need-returns-2
 unfolding giveBackLarge
@@ -21,8 +20,7 @@ returns-2 c =
     rw (
       ← c .before .before .before .before .before .before .before .plus .ensures,
       if=-no _ _ _ _ (λ e. c .before .before .before .before .if1 .left (e ∙ sym (c .before .before .before .before .before .get32 .ensures))),
-      ← c .before .before .before .before .before .before .before .before .run-start .ensures,
-    ) (c .before .before .join-run .ensures)
+    ) (cc)
 
 pub give-back-large-spec : {M : Type 1} → statement M
 give-back-large-spec =

@@ -26,10 +26,7 @@ returns-2 c =
       ← c .before .before .before .before .before .before .before .before .before .before .before .apart .ensures,
       when-no _ _ _ (c .before .before .before .before .before .before .before .before .before .before .if1 .left),
       if=-yes _ _ _ _ (c .before .before .before .before .before .before .before .before .if2 .taken),
-      c .before .before .settle2 .ensures,
-      c .before .before .before .before .before .before .leave .ensures,
-      c .before .before .before .before .before .before .before .before .before .plus .ensures,
-    )
+    ) (cc)
 
 returns-3 : tie.Need-returns-3
 unfolding joinRun
