@@ -1,7 +1,7 @@
 pub mod HeadWords
 pub mod Allowed
-pub mod Readings
 pub mod LooseReads
+pub mod Readings
 pub mod Unique
 pub mod Stands
 pub mod HeaderReads

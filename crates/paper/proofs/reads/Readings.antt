@@ -1,4 +1,5 @@
--- What a pool reads that holds the sheet of a well-formed state, word by word.
+-- What a pool reads that holds the sheet of a well-formed state, word by word. A well-formed state is one between two steps too, so
+-- heads and links are read as LooseReads reads them.
 use mathlib.Core.List.{List, _∷_}
 use mathlib.Core.Logic.{_≢_, _⊎_, inl, inr}
 use mathlib.Core.Option.{some}
@@ -9,11 +10,10 @@ use lib.ListN.{length}
 use Rattle.heads.specs.Links.{linkWord}
 use Rattle.paper.proofs.bins.Bins.{first-count, next-mem, prev-first, prev-mem, prev-of-first, prev-some}
 use Rattle.paper.proofs.bins.Distances.{linkWord-inj, linkWord-small}
-use Rattle.paper.proofs.sheet.Fields.{at-back, at-block, at-head, at-on}
+use Rattle.paper.proofs.sheet.Fields.{at-block, at-on}
 use Rattle.paper.proofs.bins.Listed.{loose, start}
-use Rattle.paper.proofs.reads.HeadWords.{heldBit-le}
-use Rattle.paper.proofs.runs.Walk.{In, in-aligned, in-flag, in-high, in-sized, sized-parts, total-append}
-use Rattle.paper.proofs.sheet.Written.{holds-word}
+use Rattle.paper.proofs.reads.LooseReads.{head-word-reads, no-zero-listed, previous-reads, word-reads}
+use Rattle.paper.proofs.runs.Walk.{In, in-sized, sized-parts, total-append}
 use Rattle.paper.specs.Bins.{count, first, nextIn, prevIn}
 use Rattle.paper.specs.Blocks.{Kind, State, block, blocks, end, free, remainder, total}
 use Rattle.paper.specs.Governed.{headWord, headerWord, index, link, sheet, smallWord}
@@ -26,15 +26,10 @@ use Rattle.words.specs.Words.{wordAt}
 -- ---- what one state says of the bytes
 module _ (bs : List ℕ) (s : State) (W : WellFormed s) (l : length bs ≡ end s) (h : Holds (sheet s) bs) where
   pub reads : (a v : ℕ) → a % 4 ≡ 0 → a + 4 ≤ end s → v < 256 ^ 4 → sheet s a ≡ some v → wordAt 4 bs a ≡ v
-  reads a v al b c e = holds-word (sheet s) bs a v h al (omega arith) c e
+  reads = word-reads bs s (loose s W) (W .fits) l h
 
   pub head-reads : (q z : ℕ) (k : Kind) (P : ℕ) → In (blocks s) blocks-at 1 q (block z k) P → wordAt 4 bs q ≡ headWord z k P
-  head-reads q z k P i =
-      let sol = in-sized (blocks s) blocks-at 1 q (block z k) P (W .sized) i in
-      let hi = in-high (blocks s) blocks-at 1 q (block z k) P i in
-      let al = in-aligned (blocks s) blocks-at 1 q (block z k) P (W .sized) refl i in
-      let fl = in-flag (blocks s) blocks-at 1 q (block z k) P (omega arith) i in
-      reads q (headWord z k P) (omega arith) (omega arith) (omega (arith, W .fits, heldBit-le k)) (at-head s q z k P i (omega arith))
+  head-reads = head-word-reads bs s (loose s W) (W .fits) l h
 
   pub end-big : 176 ≤ end s
   end-big = omega (
@@ -86,29 +81,23 @@ module _ (bs : List ℕ) (s : State) (W : WellFormed s) (l : length bs ≡ end s
       apart v (inr k) b = λ e. omega (arith, k .1 e, loose s W .once y q)
 
   pub no-zero : (y : ℕ) → count 0 (s .bins y) ≡ 0
-  no-zero y = by= (count 0 (s .bins y)) 0 (λ e. e) (λ n. absurd (omega (arith, start-of y 0 (omega arith) .0)))
+  no-zero = no-zero-listed s (loose s W)
 
   -- of a large bin, the first is the one whose way back is 0
   pub back-reads : (y q : ℕ) → large ≤ y → 1 ≤ count q (s .bins y) → first (s .bins y) ≡ q → wordAt 4 bs (q + previous-at) ≡ 0
   unfolding linkWord
   back-reads y q y72 o e =
-      let st = start-of y q o in
-      let f = loose s W .found y q o in
-      reads (q + previous-at) 0 (omega arith) (omega arith) (omega arith)
-      (at-back s q y (f .0) (f .1) y72
-      ∙ ap (link q) (subst (λ (v : ℕ). prevIn 0 (s .bins y) v ≡ some 0) e (prev-of-first 0 (s .bins y) (omega (arith, st .0))))
-      ∙ ap some (if=-yes 0 0 _ _ refl))
+      previous-reads bs s (loose s W) (W .fits) l h q y y72 o 0
+      (subst (λ (v : ℕ). prevIn 0 (s .bins y) v ≡ some 0) e (prev-of-first 0 (s .bins y) (omega (arith, start-of y q o .0))))
+      ∙ if=-yes 0 0 _ _ refl
 
   pub first-reads : (y q : ℕ) → large ≤ y → 1 ≤ count q (s .bins y) → wordAt 4 bs (q + previous-at) ≡ 0 → first (s .bins y) ≡ q
   unfolding linkWord
   first-reads y q y72 o e =
       let st = start-of y q o in
-      let f = loose s W .found y q o in
       let m = prev-some 0 q (s .bins y) (omega (arith, st .0)) o in
       let b : m .0 ≤ 65536 = bound (m .0) (prev-mem 0 q (m .0) (s .bins y) (m .1)) in
-      let d : wordAt 4 bs (q + previous-at) ≡ linkWord q (m .0) =
-      reads (q + previous-at) (linkWord q (m .0)) (omega arith) (omega arith) (linkWord-small q (m .0))
-      (at-back s q y (f .0) (f .1) y72 ∙ ap (link q) (m .1)) in
+      let d : wordAt 4 bs (q + previous-at) ≡ linkWord q (m .0) = previous-reads bs s (loose s W) (W .fits) l h q y y72 o (m .0) (m .1) in
       let z : m .0 ≡ 0 = linkWord-inj q (m .0) 0 (omega arith) b (omega arith) (m .2) (omega (arith, st .0))
       (sym d ∙ e ∙ sym (if=-yes 0 0 _ _ refl)) in
       prev-first 0 q (s .bins y) (no-zero y) (m .1 ∙ ap some z)
