@@ -1,6 +1,6 @@
 /* Records that outlive a reset in the middle of a call: two copies of one pool, changed in turn.
 
-   A call that is cut off between two of its stores leaves a pool that every later call refuses with POOL_NOT_SOUND. So calls are made
+   A call that is cut off between two of its stores may leave a pool that every later call refuses with POOL_NOT_SOUND. So calls are made
    on the copy that is not believed, and one store of one word makes it the believed one. Both copies stand in the memory that
    keeps its bytes, and `completed` is aligned, so that the word is stored whole or not at all:
 
@@ -10,7 +10,7 @@
        complete(&memory, change);                       from here on the change holds
 
    After a reset believed(&memory) is the pool as it was before the change or as it was after it. It is NULL in memory that was never
-   laid out: see lay_out_first. Where stores wait in a cache, `in_order` has to push them out too. */
+   laid out: call lay_out_first then, before the first begin. Where stores wait in a cache, `in_order` has to push them out too. */
 #ifndef COPIES_H
 #define COPIES_H
 
