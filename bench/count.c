@@ -81,6 +81,25 @@ static void one_operation(const struct operation *o) {
         abort();
 }
 
+// The calls that count, which go along all blocks of the pool.
+static void countings(void) {
+    char more[100];
+    uint32_t list[53];
+    for (int s = 0; s < SHAPES; s++) {
+        shapes[s].build(pool, LARGEST);
+        for (int l = 0; l < 2; l++) {
+            uint64_t figures, classes;
+            snprintf(more, sizeof more, "%s | %s", shapes[s].name, libraries[l]->name);
+            COUNTED(figures = libraries[l]->figures(pool, LARGEST, list, 7));
+            done("counting", "figures", more, 1);
+            COUNTED(classes = libraries[l]->class_count(pool, LARGEST, list, 53));
+            done("counting", "class count", more, 1);
+            if (figures >> 32 || classes >> 32)
+                abort();
+        }
+    }
+}
+
 static void tape(void) {
     for (int l = 0; l < 2; l++) {
         memset(pool, 0, sizeof pool);
@@ -208,6 +227,7 @@ void count(void) {
     inspections(1024);
     for (int o = 0; o < OPERATIONS; o++)
         one_operation(&operations[o]);
+    countings();
     tape();
     served();
 }

@@ -441,11 +441,13 @@ uint64_t plain_figures(const uint8_t *pool, size_t n, uint32_t *figures, size_t 
         return refused(why ? why : LIST_LENGTH);
     uint32_t start = word(pool, START), end = word(pool, END);
     memset(figures, 0, 7 * sizeof *figures);
-    figures[4] = figures[6] = end - start;
+    figures[4] = end - start;
+    figures[6] = end - start - 8; // the remainder keeps 8 bytes
     figures[5] = word(pool, FREE_WORD);
     tally(pool, BLOCKS, start, figures);
     tally(pool, end, n, figures);
-    figures[6] -= 4;
+    if (figures[6])
+        figures[6] -= 4;
     return n;
 }
 

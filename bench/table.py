@@ -111,6 +111,16 @@ class Report:
                 "Plain C, unchecked"]
         return table(head, rows)
 
+    def countings(self):
+        rows = []
+        for kind, name, shape, who in self.count_keys("counting", "proved"):
+            get = lambda who: self.count[kind, name, shape, who]
+            row = [f"{shape}: {name}", number(get("proved")), number(get("plain")), ratio(get("proved"), get("plain"))]
+            ours, theirs = (get(who) - self.count["inspect", shape, "65536", who] for who in ("proved", "plain"))
+            rows.append(row + [number(ours), number(theirs), ratio(ours, theirs)])
+        head = ["Call", "Proved", "Plain C", "Ratio", "Proved, less inspection", "Plain C, less inspection", "Ratio"]
+        return table(head, rows)
+
     def count_keys(self, kind, who):
         keys = [key for key in self.count if key[0] == kind and key[-1] == who]
         return sorted(keys, key=lambda key: (self.shapes.index(key[2]), key[1]))
@@ -150,6 +160,7 @@ class Report:
         out += ["### Inspection: instructions per KiB of a pool of 65,536 bytes", ""] + self.inspection(65536)
         out += ["### Inspection: instructions for a pool of 1,024 bytes", ""] + self.inspection(1024)
         out += ["### Taking and giving back: instructions a call, a pool of 65,536 bytes", ""] + self.operations()
+        out += ["### Figures and class count: instructions a call, a pool of 65,536 bytes", ""] + self.countings()
         out += ["### The worked tape: instructions", ""] + self.tape()
         if self.time:
             out += ["### Times with inspection", ""] + self.pairs()

@@ -54,7 +54,7 @@
 #define POOL_H
 
 /* What changed with each version: docs/CHANGES.md. */
-#define POOL_VERSION "0.1.0"
+#define POOL_VERSION "0.2.0"
 
 #include <stddef.h>
 #include <stdint.h>
@@ -102,11 +102,13 @@ enum {
     POOL_FREE_LARGE = 3, /* free large blocks */
     POOL_REMAINDER = 4,  /* the remainder's size */
     POOL_FREE_WORD = 5,  /* all free sizes, less 4: held bytes + free word + 172 = n */
-    POOL_LARGEST = 6,    /* the greatest free block's size, less 4 */
+    POOL_LARGEST = 6,    /* the greatest size that pool_take would grant now, 0 if there is none */
     POOL_FIGURES = 7     /* how many figures there are */
 };
 
-/* Fills the list of 7 figures. Value: how many blocks are held. Refused: 1, 2, 6. */
+/* Fills the list of 7 figures. Value: how many blocks are held. Refused: 1, 2, 6.
+   The last one is a promise, until a take or a give-back is done: a take of that size is granted if it is not 0, and every greater size
+   is refused with 4. */
 uint64_t pool_figures(const unsigned char *pool, size_t n, uint32_t *figures, size_t count);
 
 /* How many size classes there are: class k has size (4 + k % 4) << (k / 4 + 1), which is 8, 10, 12, 14, 16, 20, .. 65,536. */

@@ -51,7 +51,10 @@ int main(void) {
     say("take 2,000 bytes", pool_take(pool, sizeof pool, 2000));
 
     say("figures", pool_figures(pool, sizeof pool, figures, POOL_FIGURES));
-    printf("held bytes %u, free word %u\n", (unsigned)figures[POOL_HELD_BYTES], (unsigned)figures[POOL_FREE_WORD]);
+    printf("held bytes %u, free word %u, largest grant %u\n", (unsigned)figures[POOL_HELD_BYTES], (unsigned)figures[POOL_FREE_WORD],
+           (unsigned)figures[POOL_LARGEST]);
+    say("take one byte more than the largest grant", pool_take(pool, sizeof pool, figures[POOL_LARGEST] + 1));
+    say("take the largest grant", pool_take(pool, sizeof pool, figures[POOL_LARGEST]));
 
     pool[0] ^= 1; /* a bit falls over in the battery-backed memory */
     say("inspect", pool_inspect(pool, sizeof pool));

@@ -78,11 +78,14 @@ static void lengths(void) {
             refused((enum call)call, WRONG[i], 100, call == FIGURES ? 7 : 53, POOL_NOT_ALLOWED);
         }
     for (i = 0; i < sizeof RIGHT / sizeof *RIGHT; i++) {
-        uint32_t n = (uint32_t)RIGHT[i];
+        uint32_t n = (uint32_t)RIGHT[i], largest;
         done(LAY_OUT, n, 0, 0, n);
         done(INSPECT, n, 0, 0, n);
         done(FIGURES, n, 0, 7, 0);
-        expect(list[POOL_REMAINDER] == n - 168 && list[POOL_FREE_WORD] == n - 172 && list[POOL_LARGEST] == n - 172, "figures of a fresh pool");
+        largest = n == 176 ? 0 : n - 180; /* the remainder less the 8 bytes that it keeps, less 4 for the head */
+        expect(list[POOL_REMAINDER] == n - 168 && list[POOL_FREE_WORD] == n - 172 && list[POOL_LARGEST] == largest, "figures of a fresh pool");
+        refused(TAKE, n, largest + 1, 0, POOL_NO_ROOM);
+        if (largest) done(TAKE, n, largest, 0, n == 184 ? 180 : 172);
     }
 }
 
@@ -103,7 +106,7 @@ static void worked(void) {
     static const struct { enum call call; uint32_t number, refusal, value; } TAPE[] = {
         {LAY_OUT, 0, 0, 1024}, {TAKE, 10, 0, 1012},   {TAKE, 100, 0, 172},     {TAKE, 61, 0, 276},     {TAKE, 200, 0, 348}, {GIVE_BACK, 172, 0, 100},
         {TAKE, 32, 0, 972},    {TAKE, 72, 0, 556},    {GIVE_BACK, 172, 5, 0},  {GIVE_BACK, 276, 0, 68}, {TAKE, 100, 0, 172}, {GIVE_BACK, 556, 0, 76}};
-    static const uint32_t FIGURES_THEN[7] = {4, 368, 0, 1, 416, 484, 412}, HELD[4][2] = {{172, 100}, {348, 204}, {972, 36}, {1012, 12}};
+    static const uint32_t FIGURES_THEN[7] = {4, 368, 0, 1, 416, 484, 404}, HELD[4][2] = {{172, 100}, {348, 204}, {972, 36}, {1012, 12}};
     uint32_t counts[POOL_CLASSES] = {0};
     size_t i;
     for (i = 0; i < sizeof TAPE / sizeof *TAPE; i++) with(TAPE[i].call, 1024, TAPE[i].number, 0, TAPE[i].refusal, TAPE[i].value);

@@ -53,7 +53,7 @@ pub struct Figures {
     pub remainder: u32,
     /// All free sizes, less 4.
     pub free_word: u32,
-    /// The greatest free block's size, less 4.
+    /// The greatest size that `take` would grant now, 0 if there is none. Every greater one is refused with `Refusal::NoRoom`.
     pub largest: u32,
 }
 

@@ -36,7 +36,7 @@ fn the_worked_tape() {
         free_large: 1,
         remainder: 416,
         free_word: 484,
-        largest: 412,
+        largest: 404,
     };
     assert_eq!(pool.figures(), Ok(figures));
     let mut counts = [0; CLASSES];
@@ -126,7 +126,8 @@ impl Numbers {
     }
 }
 
-/// Takes and give-backs as they come; each payload keeps the byte that its holder wrote, and the figures are those of the list.
+/// Takes and give-backs as they come; each payload keeps the byte that its holder wrote, and the figures are those of the list:
+/// the largest grant is granted, and one byte more is not.
 #[test]
 fn a_long_run() {
     let mut numbers = Numbers(0x9E37_79B9_7F4A_7C15);
@@ -161,6 +162,12 @@ fn a_long_run() {
             held.iter().map(|(offset, _)| pool.ask(*offset).unwrap() + 4).sum::<u32>()
         );
         assert_eq!(figures.held_bytes + figures.free_word + 172, 8192);
+        assert_eq!(pool.take(figures.largest + 1), Err(Refusal::NoRoom));
+        if figures.largest > 0 {
+            let offset = pool.take(figures.largest).unwrap();
+            assert_eq!(pool.ask(offset), Ok(figures.largest));
+            pool.give_back(offset).unwrap();
+        }
         assert_eq!(pool.class_count().unwrap().iter().sum::<u32>() as usize, held.len());
     }
     assert!(1000 < granted && 50 < no_room, "{granted} granted, {no_room} without room");

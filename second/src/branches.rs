@@ -1,7 +1,7 @@
 //! Which branches of the rules a request takes, seen from the state before it and the answer.
 //! Random tapes are only worth their number if none of these stays at 0.
 
-use crate::rules::{need, Refusal};
+use crate::rules::{largest_grant, need, Refusal};
 use crate::state::{Bins, Block, State, GREATEST_POOL, GREATEST_SMALL, LEAST_LARGE, LOW_RUN};
 use crate::tape::Request;
 use std::collections::BTreeMap;
@@ -12,7 +12,7 @@ pub type Outcome = Result<(State, usize), Refusal>;
 const PLACES: [&str; 4] = ["alone", "first", "in the middle", "last"];
 
 /// Every branch in the order of the table; `@` stands for each of the four places.
-const NAMES: [&str; 74] = [
+const NAMES: [&str; 77] = [
     "lay out: the first pool",
     "lay out: over an old pool",
     "lay out: refused 1, no pool yet",
@@ -20,7 +20,10 @@ const NAMES: [&str; 74] = [
     "take: refused 1, no pool yet",
     "give back: refused 1, no pool yet",
     "figures: refused 1, no pool yet",
-    "figures: done",
+    "figures: the largest grant is a small bin's",
+    "figures: the largest grant is a large bin's",
+    "figures: the largest grant is the remainder's",
+    "figures: there is no grant",
     "record refused 7: other kind",
     "record refused 7: short body",
     "take: refused 3",
@@ -91,8 +94,8 @@ const NAMES: [&str; 74] = [
 
 /// Branches that a call takes on a pool image, where there is no tape and always a pool.
 pub fn of_a_pool(name: &str) -> bool {
-    let call = name.starts_with("take") || name.starts_with("give back");
-    call && !name.contains("no pool yet")
+    let calls = ["take", "give back", "figures"];
+    calls.iter().any(|call| name.starts_with(call)) && !name.contains("no pool yet")
 }
 
 fn expanded(name: &str) -> Vec<String> {
@@ -143,8 +146,24 @@ impl Counts {
             (None, Request::Take(_), _) => self.add("take: refused 1, no pool yet"),
             (None, Request::GiveBack(_), _) => self.add("give back: refused 1, no pool yet"),
             (None, Request::Figures, _) => self.add("figures: refused 1, no pool yet"),
-            _ => self.add("figures: done"),
+            (Some(state), Request::Figures, _) => self.figures(state),
+            (_, other, _) => panic!("{:?} on a pool has an outcome", other),
         }
+    }
+
+    fn figures(&mut self, state: &State) {
+        let largest = largest_grant(state);
+        let size = need(largest as u32);
+        self.add(match largest {
+            0 => "figures: there is no grant",
+            _ if state.small_bins.contains_key(&size) => {
+                "figures: the largest grant is a small bin's"
+            }
+            _ if state.large_bins.contains_key(&size) => {
+                "figures: the largest grant is a large bin's"
+            }
+            _ => "figures: the largest grant is the remainder's",
+        });
     }
 
     fn lay_out(&mut self, pool: bool, n: u32) {

@@ -34,7 +34,7 @@ pub const WORKED_LINES: &str = "\
 10 G 0 68
 11 T 0 172
 12 G 0 76
-13 S 0 4 368 0 1 416 484 412
+13 S 0 4 368 0 1 416 484 404
 ";
 
 /// A tape written as requests: letter and number, split at commas.
@@ -63,22 +63,22 @@ fn lines_of(answers: &str) -> String {
 }
 
 /// Name, requests, answers.
-const BY_HAND: [(&str, &str, &str); 30] = [
+const BY_HAND: [(&str, &str, &str); 34] = [
     ("s = 1 and 4 need 8", "L 1024, T 1, T 4", "L 0 1024, T 0 1020, T 0 1012"),
     ("5 and 12 need 16", "L 1024, T 5, T 12", "L 0 1024, T 0 1012, T 0 996"),
     ("60 needs 64", "L 1024, T 60, G 964", "L 0 1024, T 0 964, G 0 60"),
     ("61 needs 72", "L 1024, T 61, G 172", "L 0 1024, T 0 172, G 0 68"),
-    ("0 is refused with 3", "L 1024, T 0, S", "L 0 1024, T 3 0, S 0 0 0 0 0 856 852 852"),
-    ("n = 176", "L 176, S, T 1, T 0", "L 0 176, S 0 0 0 0 0 8 4 4, T 4 0, T 3 0"),
+    ("0 is refused with 3", "L 1024, T 0, S", "L 0 1024, T 3 0, S 0 0 0 0 0 856 852 844"),
+    ("n = 176", "L 176, S, T 1, T 0", "L 0 176, S 0 0 0 0 0 8 4 0, T 4 0, T 3 0"),
     ("n = 168", "L 168, S", "L 1 0, S 1 0"),
     ("n = 175", "L 175, S", "L 1 0, S 1 0"),
     ("n = 65,544", "L 65544, S", "L 1 0, S 1 0"),
-    ("n = 65,536", "L 65536, S", "L 0 65536, S 0 0 0 0 0 65368 65364 65364"),
+    ("n = 65,536", "L 65536, S", "L 0 65536, S 0 0 0 0 0 65368 65364 65356"),
     ("greatest held block", "L 65536, T 65356, G 172", "L 0 65536, T 0 172, G 0 65356"),
     ("one byte above it", "L 65536, T 65357", "L 0 65536, T 4 0"),
-    ("fresh 1,024", "L 1024, S", "L 0 1024, S 0 0 0 0 0 856 852 852"),
-    ("remainder 16, b = 8", "L 184, T 1, S", "L 0 184, T 0 180, S 0 1 8 0 0 8 4 4"),
-    ("remainder 16, b = 16", "L 184, T 5, S", "L 0 184, T 4 0, S 0 0 0 0 0 16 12 12"),
+    ("fresh 1,024", "L 1024, S", "L 0 1024, S 0 0 0 0 0 856 852 844"),
+    ("remainder 16, b = 8", "L 184, T 1, S", "L 0 184, T 0 180, S 0 1 8 0 0 8 4 0"),
+    ("remainder 16, b = 16", "L 184, T 5, S", "L 0 184, T 4 0, S 0 0 0 0 0 16 12 4"),
     (
         "free large 144 and remainder 8, b = 72",
         "L 392, T 140, T 68, G 172, T 68, S",
@@ -87,7 +87,7 @@ const BY_HAND: [(&str, &str, &str); 30] = [
     (
         "free large 144 and remainder 8, b = 144",
         "L 392, T 140, T 68, G 172, T 140, S",
-        "L 0 392, T 0 172, T 0 316, G 0 140, T 0 172, S 0 2 216 0 0 8 4 4",
+        "L 0 392, T 0 172, T 0 316, G 0 140, T 0 172, S 0 2 216 0 0 8 4 0",
     ),
     (
         "free large 144 and remainder 8, b = 80, then the larger 144 passes",
@@ -103,13 +103,13 @@ const BY_HAND: [(&str, &str, &str); 30] = [
         "a joined neighbour leaves its bin",
         "L 1024, T 68, T 68, T 68, T 68, G 244, G 172, T 68, T 140, S",
         "L 0 1024, T 0 172, T 0 244, T 0 316, T 0 388, G 0 68, G 0 68, T 0 172, T 0 460, \
-         S 0 4 360 0 1 424 492 420",
+         S 0 4 360 0 1 424 492 412",
     ),
     (
         "the chain is mended when a joined neighbour was first",
         "L 1024, T 68, T 68, T 76, T 68, T 84, T 68, G 172, G 316, G 468, G 244, T 84, T 76, S",
         "L 0 1024, T 0 172, T 0 244, T 0 316, T 0 396, T 0 468, T 0 556, G 0 68, G 0 76, \
-         G 0 84, G 0 68, T 0 468, T 0 172, S 0 4 312 0 1 400 540 396",
+         G 0 84, G 0 68, T 0 468, T 0 172, S 0 4 312 0 1 400 540 388",
     ),
     (
         "old heads inside a free run are no starts",
@@ -124,13 +124,13 @@ const BY_HAND: [(&str, &str, &str); 30] = [
     (
         "a refused L keeps the old pool",
         "L 1024, T 10, L 168, L 65544, L 4294967288, S",
-        "L 0 1024, T 0 1012, L 1 0, L 1 0, L 1 0, S 0 1 16 0 0 840 836 836",
+        "L 0 1024, T 0 1012, L 1 0, L 1 0, L 1 0, S 0 1 16 0 0 840 836 828",
     ),
     (
         "L again over an old pool",
         "L 1024, T 100, T 10, L 512, G 172, S, L 2048, G 172, S",
-        "L 0 1024, T 0 172, T 0 1012, L 0 512, G 5 0, S 0 0 0 0 0 344 340 340, L 0 2048, G 5 0, \
-         S 0 0 0 0 0 1880 1876 1876",
+        "L 0 1024, T 0 172, T 0 1012, L 0 512, G 5 0, S 0 0 0 0 0 344 340 332, L 0 2048, G 5 0, \
+         S 0 0 0 0 0 1880 1876 1868",
     ),
     (
         "sizes near 2^32",
@@ -146,6 +146,31 @@ const BY_HAND: [(&str, &str, &str); 30] = [
         "small blocks are not taken from larger bins or free large blocks",
         "L 328, T 60, T 68, G 268, T 5, T 60, G 172, T 68, T 5",
         "L 0 328, T 0 268, T 0 172, G 0 60, T 0 252, T 0 268, G 0 68, T 0 172, T 4 0",
+    ),
+    (
+        "the largest grant is the remainder's, which keeps 8 bytes",
+        "L 1024, S, T 852, T 845, T 844, S, T 1",
+        "L 0 1024, S 0 0 0 0 0 856 852 844, T 4 0, T 4 0, T 0 172, S 0 1 848 0 0 8 4 0, T 4 0",
+    ),
+    (
+        "the largest grant is a large bin's, where the remainder is as large",
+        "L 528, T 140, T 68, G 172, S, T 141, T 140, S",
+        "L 0 528, T 0 172, T 0 316, G 0 140, S 0 1 72 0 1 144 284 140, T 4 0, T 0 172, \
+         S 0 2 216 0 0 144 140 132",
+    ),
+    (
+        "the largest grant is a small bin's",
+        "L 248, T 4, T 60, G 244, S, G 180, S, T 61, T 60, S, T 4, S",
+        "L 0 248, T 0 244, T 0 180, G 0 4, S 0 1 64 1 0 8 12 4, G 0 60, S 0 0 0 2 0 8 76 60, \
+         T 4 0, T 0 180, S 0 1 64 1 0 8 12 4, T 0 244, S 0 2 72 0 0 8 4 0",
+    ),
+    (
+        "the largest grant of the worked tape",
+        "L 1024, T 10, T 100, T 61, T 200, G 172, T 32, T 72, G 172, G 276, T 100, G 556, S, \
+         T 412, T 405, T 404, S",
+        "L 0 1024, T 0 1012, T 0 172, T 0 276, T 0 348, G 0 100, T 0 972, T 0 556, G 5 0, \
+         G 0 68, T 0 172, G 0 76, S 0 4 368 0 1 416 484 404, T 4 0, T 4 0, T 0 556, \
+         S 0 5 776 0 1 8 76 68",
     ),
     (
         "a small bin is last in, first out",

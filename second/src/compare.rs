@@ -267,6 +267,11 @@ fn every_call(
         script.number(letter, held_offset(state, random)).number(letter, odd_offset(state, random));
     }
     script.plain(b'D');
+    counts.observe(Some(state), Request::Figures, None);
+    let largest = rules::largest_grant(state) as u32;
+    for s in [largest, largest + 1, *random.pick(&[largest + 8, u32::MAX])] {
+        let _ = changing(script.image(bytes), state, Request::Take(s), counts);
+    }
     for _ in 0..times {
         let s = some_size(state, random);
         let _ = changing(script.image(bytes), state, Request::Take(s), counts);

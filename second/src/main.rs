@@ -1,5 +1,5 @@
-//! The second program: the pool of document 01 once more, written from that document alone and in
-//! another way, to be held against the first one.
+//! The second program: the pool of document 01 and of the change requests in document 02 once more,
+//! written from those two alone and in another way, to be held against the first one.
 //!
 //!   second tape                    a tape on standard input, its lines on standard output
 //!   second probe                   probe commands on standard input, a line for each

@@ -25,52 +25,57 @@ pub fn need(s: u32) -> usize {
     ((s as u64 + 4 + 7) / 8 * 8) as usize
 }
 
-/// The state after a take, and the payload offset.
+/// The state after a take, and the payload offset. The copy is made where there is room, so that
+/// a size that is refused costs little: the figures ask for many.
 pub fn take(state: &State, s: u32) -> Result<(State, usize), Refusal> {
     if s == 0 {
         return Err(Refusal::SizeZero);
     }
     let size = need(s);
-    let mut after = state.clone();
-    let start = if size <= GREATEST_SMALL {
-        take_small(&mut after, size)
+    let taken = if size <= GREATEST_SMALL {
+        take_small(state, size)
     } else {
-        take_large(&mut after, size)
+        take_large(state, size)
     };
-    start.map(|start| (after, start + 4)).ok_or(Refusal::NoRoom)
+    taken.map(|(after, start)| (after, start + 4)).ok_or(Refusal::NoRoom)
 }
 
-fn take_small(state: &mut State, size: usize) -> Option<usize> {
+fn take_small(state: &State, size: usize) -> Option<(State, usize)> {
     if let Some(start) = state.small_bins.get(&size).map(|starts| starts[0]) {
-        leave(&mut state.small_bins, size, start);
-        block_mut(&mut state.high, start).held = true;
-        return Some(start);
+        let mut after = state.clone();
+        leave(&mut after.small_bins, size, start);
+        block_mut(&mut after.high, start).held = true;
+        return Some((after, start));
     }
     if state.remainder_size() < size + LEAST_REMAINDER {
         return None;
     }
     let start = state.remainder_end() - size;
-    state.high.insert(0, Block { start, size, held: true });
-    Some(start)
+    let mut after = state.clone();
+    after.high.insert(0, Block { start, size, held: true });
+    Some((after, start))
 }
 
-fn take_large(state: &mut State, size: usize) -> Option<usize> {
+fn take_large(state: &State, size: usize) -> Option<(State, usize)> {
     if let Some(start) = state.large_bins.get(&size).map(|starts| used(starts)) {
-        leave(&mut state.large_bins, size, start);
-        block_mut(&mut state.low, start).held = true;
-        return Some(start);
+        let mut after = state.clone();
+        leave(&mut after.large_bins, size, start);
+        block_mut(&mut after.low, start).held = true;
+        return Some((after, start));
     }
     let larger = state.large_bins.range(size + LEAST_LARGE..).next();
     if let Some((whole, start)) = larger.map(|(whole, starts)| (*whole, used(starts))) {
-        split(state, start, whole, size);
-        return Some(start);
+        let mut after = state.clone();
+        split(&mut after, start, whole, size);
+        return Some((after, start));
     }
     if state.remainder_size() < size + LEAST_REMAINDER {
         return None;
     }
     let start = state.remainder_start();
-    state.low.push(Block { start, size, held: true });
-    Some(start)
+    let mut after = state.clone();
+    after.low.push(Block { start, size, held: true });
+    Some((after, start))
 }
 
 /// The second block of a bin where there is one, else the first.
@@ -154,8 +159,14 @@ pub fn held_block(state: &State, offset: u32) -> Result<Block, Refusal> {
     found.copied().ok_or(Refusal::NotHeld)
 }
 
+/// The greatest payload size that take grants, found by asking it for one size after the other;
+/// 0 where it grants none. A block for a payload of n bytes does not fit into the pool.
+pub fn largest_grant(state: &State) -> usize {
+    let sizes = 1..=state.n as u32;
+    sizes.rev().find(|s| take(state, *s).is_ok()).unwrap_or(0) as usize
+}
+
 pub fn figures(state: &State) -> [usize; 7] {
-    let greatest = state.free().map(|block| block.size).max().unwrap_or(0);
     [
         state.held().count(),
         state.held().map(|block| block.size).sum(),
@@ -163,7 +174,7 @@ pub fn figures(state: &State) -> [usize; 7] {
         state.low.iter().filter(|block| !block.held).count(),
         state.remainder_size(),
         state.free_word(),
-        greatest.max(state.remainder_size()) - 4,
+        largest_grant(state),
     ]
 }
 

@@ -87,6 +87,13 @@ fn starred(report: &mut Report) {
     report.end();
 }
 
+/// The largest grant without asking take: the greatest bin, or the remainder less 8, each less 4.
+fn largest_by_rule(state: &State) -> usize {
+    let bins = state.small_bins.keys().chain(state.large_bins.keys());
+    let greatest = bins.copied().max().unwrap_or(0);
+    greatest.max(state.remainder_size() - 8).saturating_sub(4)
+}
+
 /// What must hold of a new state and its bytes, given the bytes before.
 fn step_holds(after: &State, old: &[u8]) -> Result<(), String> {
     after.well_formed()?;
@@ -108,6 +115,14 @@ fn step_holds(after: &State, old: &[u8]) -> Result<(), String> {
     let figures = rules::figures(after);
     if figures[1] + figures[5] + 172 != after.n {
         return Err("held bytes + free word + 172 is not n".to_string());
+    }
+    if figures[6] != largest_by_rule(after) {
+        return Err("the largest grant is not the greatest bin's or the remainder's".to_string());
+    }
+    if let Some(s) = [1, 4, 5, 7, 8, 64, 72, after.n].iter().find(|more| {
+        rules::take(after, (figures[6] + **more) as u32).err() != Some(rules::Refusal::NoRoom)
+    }) {
+        return Err(format!("{} more than the largest grant is not refused with 4", s));
     }
     let counted: u32 = rules::class_counts(after).iter().sum();
     if counted as usize != figures[0] {

@@ -6,6 +6,8 @@ pub mod TakeSmallKeeps
 pub mod TakeLargeKeeps
 pub mod TakeKeeps
 pub mod TakeGrants
+pub mod Givable
+pub mod LargestGrant
 pub mod Settled
 pub mod BackLargeKeeps
 pub mod BackSmallKeeps

@@ -1,12 +1,13 @@
 -- "Figures": seven sums over the blocks; and the count by size class.
 use mathlib.Core.List.{List, [], _∷_}
-use Prim.Native.Nat.{ℕ, zero, suc, _+_, _-_, max}
+use Prim.Native.Nat.{ℕ, zero, suc, _+_, _-_}
 use Rattle.words.specs.Choice.{if=, if<}
 use Rattle.classes.specs.Class.{classOf}
 use Rattle.paper.specs.declared.Figures.{Figures}
 use Rattle.paper.specs.Layout.{large}
 use Rattle.paper.specs.Blocks.{Kind, held, free, remainder, Block, block, State, size, blocks, freeSum}
 use Rattle.paper.specs.Runs.{sumOf, heldSize}
+use Rattle.paper.specs.LargestGrant.{largestGrant}
 
 -- 1 for a held block, for a free small one, for a free large one
 abbrev pub heldOne : Block → ℕ
@@ -24,13 +25,6 @@ freeLargeOne (block z held) = 0
 freeLargeOne (block z free) = if< z large 0 1
 freeLargeOne (block z remainder) = 0
 
--- "the greatest free block's size, remainder included"
-unfoldable pub greatestFree : List Block → ℕ
-greatestFree [] = 0
-greatestFree (block z held ∷ xs) = greatestFree xs
-greatestFree (block z free ∷ xs) = max z (greatestFree xs)
-greatestFree (block z remainder ∷ xs) = max z (greatestFree xs)
-
 -- "Held blocks; held bytes (block sizes); free small blocks; free large blocks; remainder size; free word; largest grant."
 unfoldable pub figures : State → Figures
 figures s =
@@ -41,7 +35,7 @@ figures s =
       «free_large» = sumOf freeLargeOne (blocks s);
       remainder = s .rest;
       «free_word» = freeSum (blocks s) - 4;
-      largest = greatestFree (blocks s) - 4;
+      largest = largestGrant s;
     }
 
 -- "A held block counts in the least class whose size is at least its payload."

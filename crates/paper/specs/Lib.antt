@@ -9,6 +9,7 @@ pub mod Governed
 pub mod Sound
 pub mod Fresh
 pub mod Granting
+pub mod LargestGrant
 pub mod LookingUp
 pub mod GivingBack
 pub mod Counting

@@ -29,7 +29,7 @@ pub enum Found {
     Nothing,
 }
 
-// The seven figures of a pool.
+// The seven figures of a pool. `largest` is the greatest payload that a take would be granted.
 pub struct Figures {
     pub held_blocks: u32,
     pub held_bytes: u32,

@@ -13,9 +13,12 @@ use Rattle.words.specs.Choice.{if<, if=, when}
 use Rattle.words.specs.Words.{Bytes, digitsAt, wordAt}
 use Rattle.heads.specs.Heads.{blockSize}
 use Rattle.text.specs.Numeral.{numeral, numeralWith}
+use Rattle.paper.proofs.cases.WorkedTape.{last, requests, worked-figures}
+use Rattle.paper.specs.declared.Figures.{Figures}
 use Rattle.paper.specs.Allowed.{allowed}
 use Rattle.paper.specs.Bins.{enter, first, leave, rebin, seek, used}
-use Rattle.paper.specs.Counting.{figures, greatestFree}
+use Rattle.paper.specs.Answers.{sevenOf}
+use Rattle.paper.specs.Counting.{figures}
 use Rattle.paper.specs.Fresh.{fresh}
 use Rattle.paper.specs.GivingBack.{giveBack, giveBackLarge, giveBackSmall, left, settle}
 use Rattle.paper.specs.Granting.{choose, chooseLarge, chooseSmall, cutHigh, cutLow, smallestBin, take, takeFirst, takePart, takeWhole}
@@ -48,8 +51,9 @@ abbrev line : String → List ℕ
 line text.[] = 10 ∷ []
 line (text._∷_ c s) = code c ∷ line s
 
-pub worked-lines : List ℕ
-worked-lines =
+-- all but the last
+first-lines : List ℕ
+first-lines =
     line "1 L 0 1024" ++
     line "2 T 0 1012" ++
     line "3 T 0 172" ++
@@ -61,14 +65,26 @@ worked-lines =
     line "9 G 5 0" ++
     line "10 G 0 68" ++
     line "11 T 0 172" ++
-    line "12 G 0 76" ++
-    line "13 S 0 4 368 0 1 416 484 412"
+    line "12 G 0 76"
 
-computed : linesFrom 65536 (length worked) worked 0 1 none ≡ worked-lines
-unfolding worked worked-lines if< if= when wordAt digitsAt blockSize numeral numeralWith allowed enter first leave rebin seek used figures greatestFree fresh giveBack giveBackLarge giveBackSmall left settle blockAt lookUp choose chooseLarge chooseSmall cutHigh cutLow smallestBin take takeFirst takePart takeWhole endsAt from replace startsAt sumOf under beginOf lineOf restOf readAt withBody linesFrom serveState
+pub worked-lines : List ℕ
+worked-lines = first-lines ++ line "13 S 0 4 368 0 1 416 484 404"
+
+-- the line of the figures, and nothing after it
+abbrev lastLine : Figures → List ℕ
+lastLine f = lineOf 13 83 (0 ∷ sevenOf f) ++ []
+
+-- the run over states, up to the figures of its last state
+computed : linesFrom 65536 (length worked) worked 0 1 none ≡ first-lines ++ lastLine (figures (last (fresh 1 1024) requests))
+unfolding worked first-lines requests if< if= when wordAt digitsAt blockSize numeral numeralWith allowed enter first leave rebin seek used fresh giveBack giveBackLarge giveBackSmall left settle blockAt lookUp choose chooseLarge chooseSmall cutHigh cutLow smallestBin take takeFirst takePart takeWhole endsAt from replace startsAt sumOf under beginOf lineOf restOf readAt withBody linesFrom serveState
 computed = refl
 
+last-line : lastLine (figures (last (fresh 1 1024) requests)) ≡ line "13 S 0 4 368 0 1 416 484 404"
+unfolding if< if= when numeral numeralWith beginOf lineOf restOf
+last-line = ap lastLine worked-figures
+
 pub worked-tape : (buffer : List ℕ) → Bytes buffer → length buffer ≡ 65536 → runOf worked buffer .text ≡ worked-lines
-unfolding worked
+unfolding worked worked-lines
 worked-tape buffer h l =
     lines-by-states worked buffer h (omega arith) ∙ ap (λ (room : ℕ). linesFrom room (length worked) worked 0 1 none) l ∙ computed
+    ∙ ap (λ (text : List ℕ). first-lines ++ text) last-line

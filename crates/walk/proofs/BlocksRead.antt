@@ -100,7 +100,9 @@ module _ (s : State) (bs : List ℕ) (S : Stands s bs) where
 
   pub end-reads : poolEnd bs ≡ E s + total (s .high)
   unfolding poolEnd
-  end-reads = if<-yes (length bs) 4294967296 _ _ (omega (arith, S .ends, S .well-formed .fits)) ∙ end-is
+  end-reads =
+      by< (length bs) 65536 (λ l. if<-yes (length bs) 65536 _ _ l ∙ end-is)
+      (λ l. if<-no (length bs) 65536 _ _ l ∙ omega (arith, S .ends, S .well-formed .fits, end-is))
 
   all-heads : HeadsRead bs (blocks s) blocks-at 1
   all-heads q (block z k) P' i =

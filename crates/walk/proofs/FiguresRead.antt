@@ -4,20 +4,23 @@ use mathlib.Core.List.{List, [], _++_, _∷_}
 use mathlib.Core.Path.{_∙_, _≡_, ap, refl, sym}
 use Prim.Native.Nat.{_+_, _-_, _<_, _≤_, max, ℕ}
 use native.Mathlib.Omega.{arith}
+use Rattle.paper.proofs.keeps.Givable.{givable-append, greatestGivable}
+use Rattle.paper.proofs.keeps.LargestGrant.{plain-rule}
 use Rattle.paper.proofs.reads.Readings.{header-reads}
 use Rattle.paper.proofs.reads.Stands.{Stands}
 use Rattle.paper.proofs.reads.Unique.{NoRemainder, high-no-remainder, low-no-remainder}
 use Rattle.paper.proofs.runs.Walk.{freeSum-le}
 use Rattle.paper.specs.Blocks.{Block, State, block, blocks, free, freeSum, held, remainder, total}
-use Rattle.paper.specs.Counting.{figures, freeLargeOne, freeSmallOne, greatestFree, heldOne}
+use Rattle.paper.specs.Counting.{figures, freeLargeOne, freeSmallOne, heldOne}
 use Rattle.paper.specs.Governed.{flagAbove, headerWord}
+use Rattle.paper.specs.LargestGrant.{largestGrant}
 use Rattle.paper.specs.Layout.{end-at, free-word-at, large, start-at}
 use Rattle.paper.specs.Runs.{heldSize, sumOf}
 use Rattle.paper.specs.Sound.{Sized}
 use Rattle.paper.specs.declared.Figures.{Figures}
 use Rattle.walk.proofs.BlocksRead.{E-reads, R-reads, both-blocks, end-is, overHeads, parts}
 use Rattle.walk.proofs.RunSums.{free-large-at-most, free-small-at-most, held-one-at-most, held-size-at-most, sum-at-most, sum-both}
-use Rattle.walk.specs.Tallies.{bare, counted, lessFour, tally}
+use Rattle.walk.specs.Tallies.{bare, closed, counted, tally}
 use Rattle.words.specs.Choice.{by<, if<-no, if<-yes, if=, when}
 use Rattle.words.specs.Sums.{minus, plus}
 use Rattle.words.specs.Words.{wordAt}
@@ -32,7 +35,7 @@ tallied t xs =
       «free_large» = t .«free_large» + sumOf freeLargeOne xs;
       remainder = t .remainder;
       «free_word» = t .«free_word»;
-      largest = max (t .largest) (greatestFree xs);
+      largest = max (t .largest) (greatestGivable xs);
     }
 
 -- none of its sums comes to 2^32
@@ -56,7 +59,7 @@ same-figures t u a b c d e f g =
     }
 
 pub counted-run : (xs : List Block) (P : ℕ) (t : Figures) → Sized xs → NoRemainder xs → Room t xs → overHeads counted xs P t ≡ tallied t xs
-unfolding tallied counted when sumOf greatestFree
+unfolding tallied counted when sumOf greatestGivable
 counted-run [] P t s n r =
     same-figures t _ (omega arith) (omega arith) (omega arith) (omega arith) refl refl (omega arith)
 counted-run (block z held ∷ xs) P t s n r =
@@ -81,27 +84,9 @@ counted-run (block z free ∷ xs) P t s n r =
     (omega arith))
 counted-run (block z remainder ∷ xs) P t s n r = absurd n
 
--- ---- the greatest free block of the two runs
-greatest-le : (xs : List Block) → greatestFree xs ≤ total xs
-unfolding greatestFree
-greatest-le [] = omega arith
-greatest-le (block z held ∷ xs) = omega (arith, greatest-le xs)
-greatest-le (block z free ∷ xs) = omega (arith, greatest-le xs)
-greatest-le (block z remainder ∷ xs) = omega (arith, greatest-le xs)
-
-greatest-append : (xs ys : List Block) → greatestFree (xs ++ ys) ≡ max (greatestFree xs) (greatestFree ys)
-unfolding greatestFree
-greatest-append [] ys = omega arith
-greatest-append (block z held ∷ xs) ys = greatest-append xs ys
-greatest-append (block z free ∷ xs) ys = omega (arith, greatest-append xs ys)
-greatest-append (block z remainder ∷ xs) ys = omega (arith, greatest-append xs ys)
-
 -- the remainder may be looked at before the large blocks
 order : (r a b : ℕ) → max (max r a) b ≡ max a (max r b)
 order r a b = omega arith
-
-less-four : (x m : ℕ) → x ≡ m → 4 ≤ m → m ≤ 65536 → minus x 4 ≡ m - 4
-less-four x m e l h = omega arith
 
 -- ---- the figures
 module _ (s : State) (bs : List ℕ) (S : Stands s bs) where
@@ -117,20 +102,22 @@ module _ (s : State) (bs : List ℕ) (S : Stands s bs) where
   counted-both : (f : Block → ℕ) → f (block (s .rest) remainder) ≡ 0 → 0 + sumOf f (s .low) + sumOf f (s .high) ≡ sumOf f (blocks s)
   counted-both f e = omega (arith, sum-both s f e)
 
-  -- the greatest free block, with the remainder counted first
-  greatest-read : max (max (minus (wordAt 4 bs end-at) (wordAt 4 bs start-at)) (greatestFree (s .low))) (greatestFree (s .high))
-      ≡ greatestFree (blocks s)
-  unfolding greatestFree
-  greatest-read =
-      ap (λ (r : ℕ). max (max r (greatestFree (s .low))) (greatestFree (s .high))) rest-read
-      ∙ order (s .rest) (greatestFree (s .low)) (greatestFree (s .high)) ∙ sym (greatest-append (s .low) (block (s .rest) remainder ∷ s .high))
+  -- what the remainder can give
+  rest-given : bare bs .largest ≡ s .rest - 8
+  unfolding bare
+  rest-given = omega (arith, rest-read, parts s bs S .1 .0, end-is s bs S, S .ends, S .well-formed .fits)
 
-  greatest-bounds : (4 ≤ greatestFree (blocks s)) × (greatestFree (blocks s) ≤ 65536)
-  unfolding greatestFree
-  greatest-bounds = (
-    omega (arith, greatest-append (s .low) (block (s .rest) remainder ∷ s .high), parts s bs S .1 .0),
-    omega (arith, greatest-le (blocks s), S .well-formed .fits),
-  )
+  -- and the greatest of all, with the remainder counted first
+  greatest-read : max (max (bare bs .largest) (greatestGivable (s .low))) (greatestGivable (s .high)) ≡ greatestGivable (blocks s)
+  unfolding greatestGivable
+  greatest-read =
+      ap (λ (r : ℕ). max (max r (greatestGivable (s .low))) (greatestGivable (s .high))) rest-given
+      ∙ order (s .rest - 8) (greatestGivable (s .low)) (greatestGivable (s .high)) ∙ sym (givable-append (s .low) (block (s .rest) remainder ∷ s .high))
+
+  -- of which the payload is the largest grant
+  largest-read : (t : Figures) → t .largest ≡ greatestGivable (blocks s) → closed bs t .largest ≡ largestGrant s
+  unfolding closed
+  largest-read t e = omega (arith, e, plain-rule s (S .well-formed))
 
   low-room : Room (bare bs) (s .low)
   unfolding bare
@@ -156,9 +143,9 @@ module _ (s : State) (bs : List ℕ) (S : Stands s bs) where
       ∙ counted-run (s .high) 1 (tallied (bare bs) (s .low)) (parts s bs S .1 .1) (high-no-remainder (s .high) (S .well-formed .high-ok)) high-room
 
   pub figures-read : tally bs ≡ figures s
-  unfolding tally figures lessFour tallied bare greatestFree
+  unfolding tally figures closed tallied bare
   figures-read =
-      ap lessFour (both-blocks s bs S counted (bare bs) ∙ runs-counted)
+      ap (closed bs) (both-blocks s bs S counted (bare bs) ∙ runs-counted)
       ∙ same-figures _ _
       (counted-both heldOne refl)
       (counted-both heldSize refl)
@@ -166,4 +153,4 @@ module _ (s : State) (bs : List ℕ) (S : Stands s bs) where
       (counted-both freeLargeOne refl)
       rest-read
       word-read
-      (less-four _ (greatestFree (blocks s)) greatest-read (greatest-bounds .0) (greatest-bounds .1))
+      (largest-read (tallied (tallied (bare bs) (s .low)) (s .high)) greatest-read)

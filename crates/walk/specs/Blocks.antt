@@ -22,6 +22,6 @@ module _ {A : Type 0} (f : A → Head → A) (bs : List ℕ) where
   unfoldable pub blocksFrom : ℕ → ℕ → A → A
   blocksFrom from to x = along (suc to) from to x
 
--- where the pool ends, as far as positions reach
+-- where the pool ends; none is longer than 65,536 bytes
 unfoldable pub poolEnd : List ℕ → ℕ
-poolEnd bs = if< (length bs) 4294967296 (length bs) 4294967295
+poolEnd bs = if< (length bs) 65536 (length bs) 65536

@@ -1,6 +1,6 @@
--- The model of the figures: each block adds to them.
+-- The model of the figures: each block adds to them. `largest` is the greatest block that can be given, until all are counted.
 use mathlib.Core.List.{List}
-use Prim.Native.Nat.{ℕ, max}
+use Prim.Native.Nat.{ℕ, _-_, max}
 use Rattle.words.specs.Choice.{if<, when}
 use Rattle.words.specs.Sums.{plus, minus}
 use Rattle.words.specs.Words.{wordAt}
@@ -8,6 +8,10 @@ use Rattle.heads.specs.declared.head.Head.{Head}
 use Rattle.paper.specs.declared.Figures.{Figures}
 use Rattle.paper.specs.Layout.{free-word-at, start-at, end-at, blocks-at, large}
 use Rattle.walk.specs.Blocks.{blocksFrom, poolEnd}
+
+-- a free block is given whole
+abbrev withFree : Figures → Head → ℕ
+withFree t h = max (t .largest) (h .size)
 
 unfoldable pub counted : Figures → Head → Figures
 counted t h =
@@ -29,7 +33,7 @@ counted t h =
       «free_large» = t .«free_large»;
       remainder = t .remainder;
       «free_word» = t .«free_word»;
-      largest = max (t .largest) (h .size);
+      largest = withFree t h;
     })
     (record {
       «held_blocks» = t .«held_blocks»;
@@ -38,10 +42,10 @@ counted t h =
       «free_large» = plus (t .«free_large») 1;
       remainder = t .remainder;
       «free_word» = t .«free_word»;
-      largest = max (t .largest) (h .size);
+      largest = withFree t h;
     }))
 
--- before any block is counted: the remainder is the greatest free block
+-- before any block is counted: what the remainder can give, which keeps 8 bytes
 unfoldable pub bare : List ℕ → Figures
 bare bs =
     let rest = minus (wordAt 4 bs end-at) (wordAt 4 bs start-at) in
@@ -51,24 +55,25 @@ bare bs =
       «free_small» = 0;
       «free_large» = 0;
       remainder = rest;
-      «free_word» = wordAt 4 bs free-word-at;
-      largest = rest;
+      «free_word» = 0;
+      largest = minus rest 8;
     }
 
-unfoldable pub lessFour : Figures → Figures
-lessFour t =
+-- when all are counted: the free word as it stands, and of the greatest block the payload
+unfoldable pub closed : List ℕ → Figures → Figures
+closed bs t =
     record {
       «held_blocks» = t .«held_blocks»;
       «held_bytes» = t .«held_bytes»;
       «free_small» = t .«free_small»;
       «free_large» = t .«free_large»;
       remainder = t .remainder;
-      «free_word» = t .«free_word»;
-      largest = minus (t .largest) 4;
+      «free_word» = wordAt 4 bs free-word-at;
+      largest = t .largest - 4;
     }
 
 abbrev pub tallyRun : List ℕ → ℕ → ℕ → Figures → Figures
 tallyRun bs from to t = blocksFrom counted bs from to t
 
 unfoldable pub tally : List ℕ → Figures
-tally bs = lessFour (tallyRun bs (wordAt 4 bs end-at) (poolEnd bs) (tallyRun bs blocks-at (wordAt 4 bs start-at) (bare bs)))
+tally bs = closed bs (tallyRun bs (wordAt 4 bs end-at) (poolEnd bs) (tallyRun bs blocks-at (wordAt 4 bs start-at) (bare bs)))

@@ -9,13 +9,13 @@ pub use tallies::tally;
 ghost use mathlib.Core.Path.{_≡_};
 ghost use Rattle.walk.specs.Blocks.{poolEnd};
 
-// Where the pool ends, as a position; no walk goes further than positions reach.
+// Where the pool ends, as a position; no pool is longer than 65,536 bytes.
 fn pool_end(pool: &[u8]) -> u32
     ensures { λ r. ⌜ r ≡ poolEnd (now (pool .entry)) ⌝ }
 {
     let n = pool.len();
-    if n < 4294967296 {
+    if n < 65536 {
         return n as u32;
     }
-    4294967295
+    65536
 }

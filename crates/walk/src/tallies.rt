@@ -1,6 +1,6 @@
 // The figures of a pool.
 ghost use mathlib.Core.Path.{_≡_};
-ghost use Prim.Native.Nat.{max};
+ghost use Prim.Native.Nat.{_-_, max};
 ghost use Rattle.walk.specs.Tallies as model;
 use heads::Head;
 use paper::BLOCKS;
@@ -16,7 +16,17 @@ fn greater(a: u32, b: u32) -> u32
     if a < b { b } else { a }
 }
 
-// With one block more.
+// The payload of a block; 0 where there is none.
+fn payload_of(size: u32) -> u32
+    ensures { λ r. ⌜ r ≡ size - 4 ⌝ }
+{
+    if size < 4 {
+        return 0;
+    }
+    size - 4
+}
+
+// With one block more. `largest` is the greatest block that can be given, until all are counted.
 fn counted(t: Figures, head: Head) -> Figures
     ensures { λ r. ⌜ r ≡ model.counted t head ⌝ }
 {
@@ -53,6 +63,7 @@ fn tally_run(pool: &[u8], from: u32, to: u32, first: Figures) -> Figures
     t
 }
 
+// The remainder gives all but the 8 bytes that it keeps; a free block is given whole.
 pub fn tally(pool: &[u8]) -> Figures
     ensures { λ r. ⌜ r ≡ model.tally (now (pool .entry)) ⌝ }
 {
@@ -65,11 +76,12 @@ pub fn tally(pool: &[u8]) -> Figures
         free_small: 0,
         free_large: 0,
         remainder,
-        free_word: words::get32(pool, FREE_WORD),
-        largest: remainder,
+        free_word: 0,
+        largest: words::minus(remainder, 8),
     };
     let low = tally_run(pool, BLOCKS, start, none);
     let mut all = tally_run(pool, end, crate::pool_end(pool), low);
-    all.largest = words::minus(all.largest, 4);
+    all.free_word = words::get32(pool, FREE_WORD);
+    all.largest = payload_of(all.largest);
     all
 }

@@ -128,7 +128,8 @@ take-places s W payload =
     let b = blockSize payload in
     by-choices s payload (λ c. Grants s b (carryOut s c))
     (record {
-      refused = refused-grants s b;
+      without-size = λ e. refused-grants s b _;
+      without-room = λ n e r. refused-grants s b _;
       from-its-bin = takeFirst-grants s W b;
       from-high-end = λ l r. cutHigh-grants s W b r;
       from-exact = takeWhole-grants s W b;

@@ -30,7 +30,8 @@ take-keeps s W payload =
     let eights = blockSize-eights payload in
     by-choices s payload (λ c. Kept s (carryOut s c .state))
     (record {
-      refused = λ k. kept-same s W;
+      without-size = λ e. kept-same s W;
+      without-room = λ n e r. kept-same s W;
       from-its-bin = λ l n. takeFirst-keeps s W b l least eights n;
       from-high-end = λ l r. cutHigh-keeps s W b l least eights r;
       from-exact = λ l n. takeWhole-keeps s W b l eights n;
@@ -62,7 +63,8 @@ unfolding take takeFirst cutHigh takeWhole takePart cutLow
 take-refused s payload =
     by-choices s payload (λ c. SameIfRefused s (carryOut s c))
     (record {
-      refused = refused-same s;
+      without-size = λ e. refused-same s _;
+      without-room = λ n e r. refused-same s _;
       from-its-bin = λ l n. granted-same s _ _;
       from-high-end = λ l r. granted-same s _ _;
       from-exact = λ l n. granted-same s _ _;

@@ -143,7 +143,8 @@ take-adds s W payload =
     let l = blockSize-least payload in
     by-choices s payload (λ c. Adds s b (carryOut s c))
     (record {
-      refused = refused-adds s b;
+      without-size = λ e. refused-adds s b _;
+      without-room = λ n e r. refused-adds s b _;
       from-its-bin = takeFirst-adds s W b e l;
       from-high-end = λ _ r. cutHigh-adds s W b e l r;
       from-exact = takeWhole-adds s W b e l;
