@@ -2,7 +2,7 @@
 no link runs through a row of blocks, where the words are.
 
 The images are those of the example tapes, each damaged many times at a place that a fixed seed chooses; all go through one probe run.
-Sound ones are also counted: blocks held and free as in the figures. The last line is `N passed, M failed`.
+Sound ones are also counted: the seven figures are those of the blocks that are drawn. The last line is `N passed, M failed`.
 """
 
 import os
@@ -38,9 +38,10 @@ def damaged(image, chance):
 
 
 def counts(pool):
-    held = [block.size for block in pool.blocks if block.kind == "held"]
-    kinds = [block.kind for block in pool.blocks]
-    return [len(held), sum(held), kinds.count("small"), kinds.count("large")]
+    """The seven figures, by the blocks that are drawn. A free block is granted whole, and the remainder keeps 8 bytes."""
+    held, small, large, (rest,) = ([block.size for block in pool.blocks if block.kind == kind] for kind in ("held", "small", "large", "remainder"))
+    greatest = max(small + large + [rest - 8])
+    return [len(held), sum(held), len(small), len(large), rest, sum(small + large) + rest - 4, max(greatest - 4, 0)]
 
 
 def points(path):
@@ -82,7 +83,7 @@ def agrees(image, inspected, figures):
     if any(crosses(drawn)):
         return False
     if inspected.split()[1] == "0":
-        return not pool.faults and counts(pool) == [int(word) for word in figures.split()[2:6]]
+        return not pool.faults and counts(pool) == [int(word) for word in figures.split()[2:]]
     return bool(pool.faults)
 
 

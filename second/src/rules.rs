@@ -32,11 +32,8 @@ pub fn take(state: &State, s: u32) -> Result<(State, usize), Refusal> {
         return Err(Refusal::SizeZero);
     }
     let size = need(s);
-    let taken = if size <= GREATEST_SMALL {
-        take_small(state, size)
-    } else {
-        take_large(state, size)
-    };
+    let taken =
+        if size <= GREATEST_SMALL { take_small(state, size) } else { take_large(state, size) };
     taken.map(|(after, start)| (after, start + 4)).ok_or(Refusal::NoRoom)
 }
 
