@@ -107,8 +107,8 @@ enum {
 };
 
 /* Fills the list of 7 figures. Value: how many blocks are held. Refused: 1, 2, 6.
-   The last one is a promise, until a take or a give-back is done: a take of that size is granted if it is not 0, and every greater size
-   is refused with 4. */
+   The last one is a promise, until the next take, give-back or laying out is done: a take of that size is granted if it is not 0, and
+   every greater size is refused with 4. */
 uint64_t pool_figures(const unsigned char *pool, size_t n, uint32_t *figures, size_t count);
 
 /* How many size classes there are: class k has size (4 + k % 4) << (k / 4 + 1), which is 8, 10, 12, 14, 16, 20, .. 65,536. */

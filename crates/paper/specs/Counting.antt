@@ -1,4 +1,4 @@
--- "Figures": seven sums over the blocks; and the count by size class.
+-- "Figures": six sums over the blocks, and the largest grant; and the count by size class.
 use mathlib.Core.List.{List, [], _∷_}
 use Prim.Native.Nat.{ℕ, zero, suc, _+_, _-_}
 use Rattle.words.specs.Choice.{if=, if<}

@@ -10,11 +10,11 @@ abbrev pub ifGranted : Answer → ℕ → ℕ → ℕ
 ifGranted (Done offset) x y = x
 ifGranted (Refused k) x y = y
 
--- the greatest of the sizes from 1 to m
+-- of the sizes from 1 to m the greatest that is granted, 0 if none is
 unfoldable pub greatestGrant : State → ℕ → ℕ
 greatestGrant s zero = 0
 greatestGrant s (suc m) = ifGranted (take s (suc m) .answer) (suc m) (greatestGrant s m)
 
--- and of all that a call can ask for, which are the numbers of 32 bits
+-- and of all sizes that a call can name, which are the numbers of 32 bits
 unfoldable pub largestGrant : State → ℕ
 largestGrant s = greatestGrant s 4294967295

@@ -9,9 +9,9 @@ use Rattle.paper.specs.declared.Figures.{Figures}
 use Rattle.paper.specs.Layout.{free-word-at, start-at, end-at, blocks-at, large}
 use Rattle.walk.specs.Blocks.{blocksFrom, poolEnd}
 
--- a free block is given whole
-abbrev withFree : Figures → Head → ℕ
-withFree t h = max (t .largest) (h .size)
+-- the greatest block that can be given, with a free one more, which is given whole
+abbrev greatestWith : Figures → Head → ℕ
+greatestWith t h = max (t .largest) (h .size)
 
 unfoldable pub counted : Figures → Head → Figures
 counted t h =
@@ -33,7 +33,7 @@ counted t h =
       «free_large» = t .«free_large»;
       remainder = t .remainder;
       «free_word» = t .«free_word»;
-      largest = withFree t h;
+      largest = greatestWith t h;
     })
     (record {
       «held_blocks» = t .«held_blocks»;
@@ -42,7 +42,7 @@ counted t h =
       «free_large» = plus (t .«free_large») 1;
       remainder = t .remainder;
       «free_word» = t .«free_word»;
-      largest = withFree t h;
+      largest = greatestWith t h;
     }))
 
 -- before any block is counted: what the remainder can give, which keeps 8 bytes

@@ -6,9 +6,10 @@ use mathlib.Core.Path.{_∙_, _≡_, refl, subst, sym}
 use Prim.Native.Nat.{_%_, _+_, _-_, _≤_, max, ℕ}
 use native.Mathlib.Omega.{arith}
 use Rattle.paper.proofs.bins.Bins.{empty, first-count}
-use Rattle.paper.proofs.bins.Listed.{freeAt-append, loose, start}
+use Rattle.paper.proofs.bins.Listed.{freeAt-append, loose}
+use Rattle.paper.proofs.reads.LooseReads.{no-zero-listed}
 use Rattle.paper.proofs.reads.Unique.{NoRemainder, high-no-remainder, low-no-remainder}
-use Rattle.paper.specs.Bins.{count, first}
+use Rattle.paper.specs.Bins.{first}
 use Rattle.paper.specs.Blocks.{Block, State, block, blocks, free, held, remainder, total}
 use Rattle.paper.specs.Layout.{blocks-at}
 use Rattle.paper.specs.Sound.{Sized, WellFormed, freeAt}
@@ -89,10 +90,7 @@ module _ (s : State) (W : WellFormed s) where
 
   -- the bin of a free block is not empty
   free-binned : (z q : ℕ) → 1 ≤ freeAt (blocks s) blocks-at z q → first (s .bins z) ≢ 0
-  free-binned z q h e = omega (arith, W .listed z q, empty (s .bins z) q e no-zero)
-    where
-      no-zero : count 0 (s .bins z) ≡ 0
-      no-zero = by= (count 0 (s .bins z)) 0 (λ o. o) (λ n. absurd (omega (arith, start s (loose s W) z 0 (omega arith) .0)))
+  free-binned z q h e = omega (arith, W .listed z q, empty (s .bins z) q e (no-zero-listed s (loose s W) z))
 
   low-binned : (z q : ℕ) → 1 ≤ freeAt (s .low) blocks-at z q → first (s .bins z) ≢ 0
   low-binned z q h = free-binned z q (omega (arith, freeAt-append (s .low) (block (s .rest) remainder ∷ s .high) blocks-at z q))

@@ -66,7 +66,8 @@ greatest-is s (suc m) k l g r =
     ap (λ (a : Answer). ifGranted a (suc m) (greatestGrant s m)) (h .1) ∙ sym e)
     (λ n. ap (λ (a : Result). ifGranted (a .answer) (suc m) (greatestGrant s m)) (r (suc m) (omega arith)) ∙ greatest-is s m k (omega arith) g r)
 
--- a payload in the words of bins: no bin that has a block is greater than its block, nor is what the remainder can give, and one is as great
+-- the block for the largest grant has 4 bytes more than it: no bin that has a block is of a greater size, nor can the remainder, which keeps
+-- 8 bytes, give a greater one; and a bin, or the remainder, has just that
 pub record ByBins (s : State) (largest : ℕ) : Type 0 where
   pub no-bin-greater : (z : ℕ) → first (s .bins z) ≢ 0 → z ≤ largest + 4
   pub remainder-no-greater : s .rest ≤ largest + 4 + 8
