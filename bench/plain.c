@@ -451,12 +451,13 @@ uint64_t plain_figures(const uint8_t *pool, size_t n, uint32_t *figures, size_t 
     return n;
 }
 
-// The least class of a payload: class k has size (4 + k mod 4) × 2^(k div 4 + 1).
+// The least class of a payload: class k has size (4 + k mod 4) × 2^(k div 4 + 1). So the three top bits of payload - 1 and their place name
+// the class below it.
 static uint32_t class_of(uint32_t payload) {
-    uint32_t k = 0;
-    while ((uint32_t)(4 + k % 4) << (k / 4 + 1) < payload)
-        k++;
-    return k;
+    if (payload <= 8)
+        return 0;
+    uint32_t place = 29 - (uint32_t)__builtin_clz(payload - 1);
+    return 4 * place + ((payload - 1) >> place) - 7;
 }
 
 static uint32_t count_run(const uint8_t *pool, uint32_t from, uint32_t to, uint32_t *counts) {

@@ -54,7 +54,7 @@
 #define POOL_H
 
 /* What changed with each version: docs/CHANGES.md. */
-#define POOL_VERSION "0.2.0"
+#define POOL_VERSION "0.2.1"
 
 #include <stddef.h>
 #include <stdint.h>

@@ -284,6 +284,7 @@ pub fn probe_cases() -> Vec<ProbeCase> {
         calls_then_dump("free equals at 168 and 400", vec![255; 1024], EQUALS),
         calls_then_dump("the worked tape's bytes", vec![170; 1024], &WORKED_TAPE[8..]),
         class_case(),
+        every_class_case(),
         false_head_case(),
     ];
     cases.extend(ring_cases());
@@ -328,6 +329,17 @@ fn class_case() -> ProbeCase {
         all(7, 54),
     );
     ProbeCase { name: "classes".to_string(), input: script.input, lines: Some(lines) }
+}
+
+/// Every payload that a block of a pool can have, alone in a fresh pool: the class count tells its
+/// class.
+fn every_class_case() -> ProbeCase {
+    let mut script = Script::new();
+    script.image(&[0; 65_536]);
+    for payload in (4..=65_356).step_by(8) {
+        script.plain(b'L').number(b'T', payload).number(b'C', 53);
+    }
+    ProbeCase { name: "every payload's class".to_string(), input: script.input, lines: None }
 }
 
 /// A word that looks like a head is written into a held payload; no call believes it.

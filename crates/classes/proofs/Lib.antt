@@ -1,3 +1,4 @@
 pub mod Table
 pub mod Sizes
 pub mod Class
+pub mod TopBits

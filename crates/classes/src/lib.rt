@@ -1,77 +1,30 @@
-// The size classes of held blocks: class k has size (4 + k mod 4) × 2^(k div 4 + 1), for k from 0 to 52.
+// The size classes of held blocks: class k has size (4 + k mod 4) × 2^(k div 4 + 1), for k from 0 to 52 (as a table: specs/Sizes.antt).
 ghost use mathlib.Core.Path.{_≡_};
 ghost use Rattle.classes.specs.Class.{classOf};
-
-// The class sizes as a table. What is proved of it is the rule above, at every entry.
-const SIZES: [u32; 53] = [
-    8,
-    10,
-    12,
-    14,
-    16,
-    20,
-    24,
-    28,
-    32,
-    40,
-    48,
-    56,
-    64,
-    80,
-    96,
-    112,
-    128,
-    160,
-    192,
-    224,
-    256,
-    320,
-    384,
-    448,
-    512,
-    640,
-    768,
-    896,
-    1024,
-    1280,
-    1536,
-    1792,
-    2048,
-    2560,
-    3072,
-    3584,
-    4096,
-    5120,
-    6144,
-    7168,
-    8192,
-    10240,
-    12288,
-    14336,
-    16384,
-    20480,
-    24576,
-    28672,
-    32768,
-    40960,
-    49152,
-    57344,
-    65536,
-];
 
 // How many classes there are, and the answer where no class holds the payload.
 pub const CLASSES: u32 = 53;
 
-// The least class whose size is at least the payload.
+// The size of the first class.
+const LEAST: u32 = 8;
+
+// The size of the last class.
+const GREATEST: u32 = 65536;
+
+// The least class whose size is at least the payload. Above 8, let top be the three top bits of payload - 1, and place how many bits are
+// below them: class 4 × place + top - 8 has top × 2^place bytes, just too few, and the next one has (top + 1) × 2^place, which is enough.
+// Payload 100: 99 is 110 0011 in bits, so top is 6 and place is 4; class 14 has 96 bytes, and class 15 has 112.
 pub fn class_of(payload: u32) -> u32
     ensures { λ r. ⌜ r ≡ classOf payload ⌝ }
 {
-    let mut k: u32 = 0;
-    while k < CLASSES {
-        if payload <= SIZES[k as usize] {
-            return k;
-        }
-        k += 1;
+    if payload <= LEAST {
+        return 0;
     }
-    k
+    if payload > GREATEST {
+        return CLASSES;
+    }
+    let last = payload - 1;
+    let place = 29 - u32::leading_zeros(last);
+    let top = last >> place;
+    4 * place + top - 7
 }

@@ -1,65 +1,37 @@
--- classes::class_of meets its contract: at the loop's head the search from class k on still gives the payload's class.
-use mathlib.Core.Path.{_≡_, refl, sym, _∙_}
-use Prim.Native.Nat.{ℕ, zero, suc, _+_, _-_, _≤_, _<_}
+-- classes::class_of meets its contract: at the two ends by the first class and the last, and between them by the bits of payload - 1.
+-- What it answers comes first, and then that no step leaves its range.
+use Prim.Native.Nat.{_-_}
 use borrow.Author.Needs.{needs}
-use lib.ListN.{getD}
 use native.Mathlib.Omega.{arith}
-use Rattle.classes.specs.Class.{leastFrom, classOf}
-use Rattle.classes.proofs.Sizes.{sizes, table-size}
-use Rattle.classes.proofs.Class.{here, further}
+use Rattle.classes.proofs.Class.{first-class, no-class}
+use Rattle.classes.proofs.TopBits.{TopBits, top-bits, class-by-bits}
 use Rattle.classes.proofs.class_of.Statement.{statement}
 use Rattle.classes.proofs.class_of.Tie as tie
+use Rattle.classes.proofs.class_of.Reads as reads
+use Rattle.classes.proofs.class_of.Lts as lts
 
-record Seeking (payload k : ℕ) : Type 0 where
-  pub left : ℕ
-  pub counted : k + left ≡ 53
-  pub same : classOf payload ≡ leastFrom left k payload
+up-to-8 : tie.Need-returns
+up-to-8 c = omega (arith, first-class (c .before .args .payload) (omega arith))
 
-start : (p : ℕ) → Seeking p 0
-unfolding classOf
-start p = record { left = 53; counted = refl; same = refl }
+past-65536 : tie.Need-returns-2
+past-65536 c = omega (arith, no-class (c .before .before .args .payload) (omega arith))
 
-is-found : {p k : ℕ} → Seeking p k → k < 53 → p ≤ getD sizes k 0 → k ≡ classOf p
-is-found {p} {k} s l h = go (s .left) (s .counted) (s .same)
-  where
-    go : (left : ℕ) → k + left ≡ 53 → classOf p ≡ leastFrom left k p → k ≡ classOf p
-    go zero e q = absurd (omega arith)
-    go (suc left) e q = sym (q ∙ here left k p (rw (table-size k l) at h))
+between : tie.Need-returns-3
+between c = omega (arith, class-by-bits (c .before .before .args .payload) (omega arith) (omega arith))
 
-goes-on : {p k : ℕ} → Seeking p k → k < 53 → getD sizes k 0 < p → Seeking p (k + 1)
-goes-on {p} {k} s l h = go (s .left) (s .counted) (s .same)
-  where
-    go : (left : ℕ) → k + left ≡ 53 → classOf p ≡ leastFrom left k p → Seeking p (k + 1)
-    go zero e q = absurd (omega arith)
-    go (suc left) e q =
-        record { left = left; counted = omega arith; same = q ∙ further left k p (rw (table-size k l) at h) }
-
-is-none : {p k : ℕ} → Seeking p k → 53 ≤ k → k ≡ classOf p
-unfolding leastFrom
-is-none {p} {k} s h = go (s .left) (s .counted) (s .same)
-  where
-    go : (left : ℕ) → k + left ≡ 53 → classOf p ≡ leastFrom left k p → k ≡ classOf p
-    go zero e q = sym q
-    go (suc left) e q = absurd (omega arith)
-
-abbrev Inv-loop : tie.InvT-loop
-Inv-loop payload k₀ k = Seeking payload k
-
-abbrev μ-loop : tie.MeasureT-loop
-μ-loop payload k₀ k = 53 - k
+bits : (c : lts.Else2 reads.Pre reads.Post) → TopBits (c .before .before .args .payload - 1)
+bits c = top-bits (c .before .before .args .payload - 1) (omega arith) (omega arith)
 
 pub class-of-spec : {M : Type 1} → statement M
 class-of-spec =
     tie.close
     (tie.spec
-    Inv-loop
-    μ-loop
-    (λ c. start _)
+    up-to-8
+    past-65536
+    (λ c. search needs)
+    (λ c. omega (arith, bits c .long))
     (λ c. search needs)
     (λ c. search needs)
-    (λ c. search needs)
-    (λ c. search is-found)
-    (λ c. search needs)
-    (λ c. search needs)
-    (λ c. search goes-on)
-    (λ c. search is-none))
+    (λ c. record { fits = omega (arith, bits c .to-7) })
+    (λ c. omega (arith, bits c .long, bits c .from-4))
+    between)

@@ -1,0 +1,12 @@
+-- "The constant table 8, 10, 12, 14, 16, 20, 24, 28, .. 56K, 64K": the class sizes, to be seen. The rule is `Class.size`; that each entry has its
+-- class's size, and is the greatest payload of its class, is proved once over all 53 (proofs/Sizes.antt, proofs/Class.antt).
+use mathlib.Core.List.{List, [], _∷_}
+use Prim.Native.Nat.{ℕ}
+
+abbrev pub sizes : List ℕ
+sizes =
+    8 ∷ 10 ∷ 12 ∷ 14 ∷ 16 ∷ 20 ∷ 24 ∷ 28 ∷ 32 ∷ 40 ∷ 48 ∷ 56 ∷
+    64 ∷ 80 ∷ 96 ∷ 112 ∷ 128 ∷ 160 ∷ 192 ∷ 224 ∷ 256 ∷ 320 ∷ 384 ∷ 448 ∷
+    512 ∷ 640 ∷ 768 ∷ 896 ∷ 1024 ∷ 1280 ∷ 1536 ∷ 1792 ∷ 2048 ∷ 2560 ∷ 3072 ∷ 3584 ∷
+    4096 ∷ 5120 ∷ 6144 ∷ 7168 ∷ 8192 ∷ 10240 ∷ 12288 ∷ 14336 ∷ 16384 ∷ 20480 ∷ 24576 ∷ 28672 ∷
+    32768 ∷ 40960 ∷ 49152 ∷ 57344 ∷ 65536 ∷ []
