@@ -1,5 +1,5 @@
 -- The sizes of the classes: the table has them, there are four to each power of two, and they rise.
-use mathlib.Core.Path.{_≡_, _∙_, ap, ap₂}
+use mathlib.Core.Path.{_≡_, refl, _∙_, ap, ap₂}
 use mathlib.Core.Logic.{_⊎_, inl, inr}
 use Prim.Native.Nat.{ℕ, suc, _+_, _-_, _*_, _/_, _%_, _^_, _≤_, _<_}
 use native.Mathlib.Decide.{le-ind}
@@ -7,11 +7,14 @@ use native.Mathlib.Nat.{eq-or-lt-of-le, le-refl, pow-suc}
 use native.Mathlib.Numerals.{add-one}
 use native.Mathlib.Omega.{arith}
 use lib.Dec.{eqb, eqb→eq}
-use lib.ListN.{getD}
+use lib.ListN.{length, getD}
 use lib.Pow.{pow-pos}
 use Rattle.classes.specs.Class.{size}
 use Rattle.classes.specs.Sizes.{sizes}
 use Rattle.classes.proofs.Table.{every-at}
+
+pub table-length : length sizes ≡ 53
+table-length = refl
 
 -- each entry is its class's size: one computed test over all 53
 pub table-size : (k : ℕ) → k < 53 → getD sizes k 0 ≡ size k
