@@ -26,8 +26,8 @@ pub record TopBits (m : ℕ) : Type 0 where
 -- the three top bits of a number of s + 3 bits
 three : (m s : ℕ) → 2 ^ suc (suc s) ≤ m → m < 2 ^ suc (suc (suc s)) → (4 ≤ m / 2 ^ s) × (m / 2 ^ s < 8)
 three m s l h =
-    let two : 2 ^ suc (suc s) ≡ 2 ^ s * 4 = omega (arith, pow-suc 2 (suc s), pow-suc 2 s) in
-    let three : 2 ^ suc (suc (suc s)) ≡ 2 ^ s * 8 = omega (arith, pow-suc 2 (suc (suc s))) in
+    let four : 2 ^ suc (suc s) ≡ 2 ^ s * 4 = omega (arith, pow-suc 2 (suc s), pow-suc 2 s) in
+    let eight : 2 ^ suc (suc (suc s)) ≡ 2 ^ s * 8 = omega (arith, pow-suc 2 (suc (suc s))) in
     (le-div-iff-mul-le (pow-pos s) .1 (omega arith), div-lt-iff-lt-mul (pow-pos s) .1 (omega arith))
 
 shorter : {i j : ℕ} → 2 ^ i < 2 ^ j → i < j
@@ -43,7 +43,7 @@ top-bits m l h =
     let bits = three m (place m) (rw at (highest .2)) (rw at (highest .3)) in
     record { long = omega (arith, highest .1); short = omega (arith, highest .1); from-4 = bits .0; to-7 = omega (arith, bits .1) }
 
--- by any s and t that stand to the payload as its place and its top bits do
+-- for any s and t that stand to the payload as the place and the top bits do
 by-bits : (s t p : ℕ) → 1 ≤ s → s ≤ 13 → 4 ≤ t → t ≤ 7 → t * 2 ^ s < p → p ≤ (t + 1) * 2 ^ s → classOf p + 7 ≡ 4 * s + t
 by-bits s t p s≥1 s≤13 t≥4 t≤7 l h =
     let small : size (4 * s + t - 8) ≡ t * 2 ^ s = size-by-bits s t s≥1 t≥4 (omega arith) in

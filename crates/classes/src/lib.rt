@@ -24,7 +24,7 @@ pub fn class_of(payload: u32) -> u32
         return CLASSES;
     }
     let last = payload - 1;
-    let place = 29 - u32::leading_zeros(last);
+    let place = 29 - u32::leading_zeros(last); // of 32 bits, without the three and the zeros above them
     let top = last >> place;
     4 * place + top - 7
 }
