@@ -451,8 +451,8 @@ uint64_t plain_figures(const uint8_t *pool, size_t n, uint32_t *figures, size_t 
     return n;
 }
 
-// The least class of a payload: class k has size (4 + k mod 4) × 2^(k div 4 + 1). So the three top bits of payload - 1 and their place name
-// the class below it.
+// The least class of a payload: class k has size (4 + k mod 4) × 2^(k div 4 + 1). The three top bits of payload - 1 and their place name the
+// last class that is too small.
 static uint32_t class_of(uint32_t payload) {
     if (payload <= 8)
         return 0;

@@ -4,7 +4,7 @@ use mathlib.Core.Path.{_≡_}
 use mathlib.Core.Logic.{⊎-elim}
 use Prim.Native.Nat.{ℕ, zero, suc, _+_, _≤_, _<_}
 use native.Mathlib.Decide.{decLe}
-use native.Mathlib.Nat.{eq-or-lt-of-le, le-refl}
+use native.Mathlib.Nat.{eq-or-lt-of-le, le-refl, lt-of-not-le}
 use native.Mathlib.Numerals.{add-one}
 use native.Mathlib.Omega.{arith}
 use borrow.Author.Tests.{le-leb, lt-leb}
@@ -76,7 +76,7 @@ unfolding size
 no-class p h =
     ⊎-elim (λ e. e) (λ l. absurd (omega (arith, class-holds p l, size-at-most (classOf p) 52 (omega arith)))) (eq-or-lt-of-le (at-most-53 p))
 
--- class 0 holds what it can
+-- up to 8 bytes it is class 0
 pub first-class : (p : ℕ) → p ≤ 8 → classOf p ≡ 0
 unfolding classOf size
 first-class p h = here 52 0 p h
@@ -84,15 +84,9 @@ first-class p h = here 52 0 p h
 -- between two sizes the class is the larger one's
 pub class-between : (k p : ℕ) → k < 53 → size k < p → p ≤ size (k + 1) → classOf p ≡ k + 1
 class-between k p l small enough =
-    omega (arith, not-smaller (decLe (classOf p) k), not-greater (decLe (classOf p) (k + 1)))
-  where
-    not-smaller : Dec (classOf p ≤ k) → k < classOf p
-    not-smaller (yes c) = absurd (omega (arith, class-holds p (omega arith), size-at-most (classOf p) k c))
-    not-smaller (no c) = omega arith
-
-    not-greater : Dec (classOf p ≤ k + 1) → classOf p ≤ k + 1
-    not-greater (yes c) = c
-    not-greater (no c) = absurd (omega (arith, below-class p (k + 1) (omega arith)))
+    let above : k < classOf p = lt-of-not-le (λ c. omega (arith, class-holds p (omega arith), size-at-most (classOf p) k c)) in
+    let within : classOf p < k + 2 = lt-of-not-le (λ c. omega (arith, below-class p (k + 1) (omega arith))) in
+    omega arith
 
 -- ---- the table
 

@@ -23,8 +23,8 @@ pub fn class_of(payload: u32) -> u32
     if payload > GREATEST {
         return CLASSES;
     }
-    let last = payload - 1;
-    let place = 29 - u32::leading_zeros(last); // of 32 bits, without the three and the zeros above them
-    let top = last >> place;
+    let less_one = payload - 1;
+    let place = 29 - u32::leading_zeros(less_one); // of 32 bits, without the three and the zeros above them
+    let top = less_one >> place;
     4 * place + top - 7
 }

@@ -17,10 +17,10 @@ past-65536 : tie.Need-returns-2
 past-65536 c = omega (arith, no-class (c .before .before .args .payload) (omega arith))
 
 between : tie.Need-returns-3
-between c = omega (arith, class-by-bits (c .before .before .args .payload) (omega arith) (omega arith))
+between c = omega (arith, class-by-bits 32 (c .before .before .args .payload) (omega arith) (omega arith) (omega arith))
 
-bits : (c : lts.Else2 reads.Pre reads.Post) → TopBits (c .before .before .args .payload - 1)
-bits c = top-bits (c .before .before .args .payload - 1) (omega arith) (omega arith)
+bits : (c : lts.Else2 reads.Pre reads.Post) → TopBits 32 (c .before .before .args .payload - 1)
+bits c = top-bits 32 (c .before .before .args .payload - 1) (omega arith) (omega arith)
 
 pub class-of-spec : {M : Type 1} → statement M
 class-of-spec =
@@ -33,5 +33,5 @@ class-of-spec =
     (λ c. search needs)
     (λ c. search needs)
     (λ c. record { fits = omega (arith, bits c .to-7) })
-    (λ c. omega (arith, bits c .long, bits c .from-4))
+    (λ c. omega (arith, class-by-bits 32 (c .before .before .args .payload) (omega arith) (omega arith) (omega arith)))
     between)
