@@ -3,16 +3,30 @@
 
 use crate::rules::{largest_grant, need, Refusal};
 use crate::state::{Bins, Block, State, GREATEST_POOL, GREATEST_SMALL, LEAST_LARGE, LOW_RUN};
+use crate::tally::{expanded, Tally};
 use crate::tape::Request;
-use std::collections::BTreeMap;
 
 pub type Outcome = Result<(State, usize), Refusal>;
 
 /// Places in a list or in the chain, in the order in which names are listed.
 const PLACES: [&str; 4] = ["alone", "first", "in the middle", "last"];
 
-/// Every branch in the order of the table; `@` stands for each of the four places.
-const NAMES: [&str; 77] = [
+/// Where an offset can lie that is no held payload's.
+pub const NOT_HELD: [&str; 9] = [
+    "past n",
+    "below 168",
+    "4 past R",
+    "elsewhere in the remainder",
+    "4 past a free small block",
+    "4 past a free large block",
+    "elsewhere in a free block",
+    "a held block's start",
+    "inside a held block",
+];
+
+/// Every branch in the order of the table; `@` stands for each of the four places, `~` for each
+/// place of an offset.
+const NAMES: [&str; 69] = [
     "lay out: the first pool",
     "lay out: over an old pool",
     "lay out: refused 1, no pool yet",
@@ -56,15 +70,7 @@ const NAMES: [&str; 77] = [
     "take large: refused 4, the remainder is exactly b",
     "take large: refused 4, all free room is too little",
     "take large: refused 4, b above 65,536",
-    "give back: refused 5, past n",
-    "give back: refused 5, below 168",
-    "give back: refused 5, 4 past R",
-    "give back: refused 5, elsewhere in the remainder",
-    "give back: refused 5, 4 past a free small block",
-    "give back: refused 5, 4 past a free large block",
-    "give back: refused 5, elsewhere in a free block",
-    "give back: refused 5, a held block's start",
-    "give back: refused 5, inside a held block",
+    "give back: refused 5, ~",
     "give back small: into an empty bin",
     "give back small: into a bin with blocks",
     "give back large: no neighbour free",
@@ -98,26 +104,19 @@ pub fn of_a_pool(name: &str) -> bool {
     calls.iter().any(|call| name.starts_with(call)) && !name.contains("no pool yet")
 }
 
-fn expanded(name: &str) -> Vec<String> {
-    if name.contains('@') {
-        PLACES.iter().map(|place| name.replace('@', place)).collect()
-    } else {
-        vec![name.to_string()]
-    }
-}
-
 pub struct Counts {
-    taken: BTreeMap<String, u64>,
+    tally: Tally,
 }
 
 impl Counts {
     pub fn new() -> Counts {
-        let names = NAMES.iter().flat_map(|name| expanded(name));
-        Counts { taken: names.map(|name| (name, 0)).collect() }
+        let names = NAMES.iter().map(|name| name.to_string()).collect();
+        let names = expanded(expanded(names, '@', &PLACES), '~', &NOT_HELD);
+        Counts { tally: Tally::new(names) }
     }
 
     fn add(&mut self, name: &str) {
-        *self.taken.get_mut(name).unwrap_or_else(|| panic!("branch {:?} is not listed", name)) += 1;
+        self.tally.add(name);
     }
 
     fn add_at(&mut self, name: &str, place: usize) {
@@ -126,8 +125,7 @@ impl Counts {
 
     /// Name and count in the order of the list.
     pub fn table(&self) -> Vec<(String, u64)> {
-        let names = NAMES.iter().flat_map(|name| expanded(name));
-        names.map(|name| (name.clone(), self.taken[&name])).collect()
+        self.tally.table()
     }
 
     pub fn unreadable(&mut self, short_body: bool) {
@@ -287,7 +285,10 @@ impl Counts {
     fn give_back(&mut self, before: &State, offset: u32, outcome: &Outcome) {
         let after = match outcome {
             Ok((after, _)) => after,
-            Err(_) => return self.give_back_refused(before, offset as usize),
+            Err(_) => {
+                let place = place_not_held(before, offset as usize);
+                return self.add(&format!("give back: refused 5, {}", place));
+            }
         };
         let start = offset as usize - 4;
         if let Some(block) = before.high.iter().find(|block| block.start == start) {
@@ -300,29 +301,6 @@ impl Counts {
         let above = before.low.get(index + 1).copied().filter(|block| !block.held);
         self.neighbours(&before.large_bins, below, above);
         self.run_goes(before, after, index, below, above);
-    }
-
-    fn give_back_refused(&mut self, before: &State, offset: usize) {
-        let start = offset.wrapping_sub(4);
-        let (r, e) = (before.remainder_start(), before.remainder_end());
-        let around = before.blocks().find(|block| block.start <= offset && offset < block.end());
-        let place = match around {
-            _ if offset >= before.n => "past n",
-            _ if offset < LOW_RUN => "below 168",
-            _ if start == r => "4 past R",
-            _ if r <= offset && offset < e => "elsewhere in the remainder",
-            Some(block) if !block.held && start == block.start => {
-                if block.size <= GREATEST_SMALL {
-                    "4 past a free small block"
-                } else {
-                    "4 past a free large block"
-                }
-            }
-            Some(block) if !block.held => "elsewhere in a free block",
-            Some(block) if offset == block.start => "a held block's start",
-            _ => "inside a held block",
-        };
-        self.add(&format!("give back: refused 5, {}", place));
     }
 
     fn neighbours(&mut self, bins: &Bins, below: Option<Block>, above: Option<Block>) {
@@ -400,6 +378,29 @@ impl Counts {
             (_, 0) => self.add("give back large: single block enters a bin of two or more"),
             _ => self.add("give back large: joined run enters a bin with blocks"),
         }
+    }
+}
+
+/// Where an offset lies that is not 4 past the start of a held block: one of `NOT_HELD`.
+pub fn place_not_held(state: &State, offset: usize) -> &'static str {
+    let start = offset.wrapping_sub(4);
+    let (r, e) = (state.remainder_start(), state.remainder_end());
+    let around = state.blocks().find(|block| block.start <= offset && offset < block.end());
+    match around {
+        _ if offset >= state.n => "past n",
+        _ if offset < LOW_RUN => "below 168",
+        _ if start == r => "4 past R",
+        _ if r <= offset && offset < e => "elsewhere in the remainder",
+        Some(block) if !block.held && start == block.start => {
+            if block.size <= GREATEST_SMALL {
+                "4 past a free small block"
+            } else {
+                "4 past a free large block"
+            }
+        }
+        Some(block) if !block.held => "elsewhere in a free block",
+        Some(block) if offset == block.start => "a held block's start",
+        _ => "inside a held block",
     }
 }
 

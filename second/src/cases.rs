@@ -408,7 +408,7 @@ pub fn probe_edges() -> Vec<ProbeCase> {
         |name: String, input: Vec<u8>, lines: Option<String>| ProbeCase { name, input, lines };
     let stop = |done: &str| Some(format!("{}X 7 0\n", done));
     let mut cases = vec![case("no input".to_string(), Vec::new(), Some(String::new()))];
-    for letter in [0, 10, 32, b'0', b'B', b'X', b'Z', b'd', b'i', b'l', b'n', b's', 255] {
+    for letter in [0, 10, 32, b'0', b'b', b'X', b'Z', b'd', b'i', b'l', b'n', b's', 255] {
         cases.push(case(format!("letter {}", letter), vec![letter, b'D'], stop("")));
         let after = vec![b'D', letter, b'D'];
         cases.push(case(format!("D, letter {}", letter), after, stop("D 0 0 -\n")));

@@ -1,5 +1,6 @@
 //! Holds two other programs, a tape program and a probe, against this one, byte for byte.
 
+use crate::banks;
 use crate::branches::{self, Counts, Outcome};
 use crate::cases;
 use crate::child::{self, Fault};
@@ -27,6 +28,8 @@ pub struct Options {
     pub probe: Vec<String>,
     pub seed: u64,
     pub keep: PathBuf,
+    /// The other probe has the pool's calls and no bank.
+    pub pool_only: bool,
 }
 
 struct Case {
@@ -52,6 +55,9 @@ pub fn run(options: Options) -> bool {
     compare.branches(&by_tapes, &by_images);
     compare.damaged_images();
     compare.edges();
+    if !compare.options.pool_only {
+        compare.banks();
+    }
     compare.report.close()
 }
 
@@ -203,6 +209,45 @@ impl Compare {
         }
         self.report.end();
     }
+
+    fn banks(&mut self) {
+        self.report.begin("fixed banks");
+        for case in banks::fixed::cases().into_iter().chain(banks::fixed::edges()) {
+            self.one(Program::Probe, &case.name, &case.input, case.lines.as_deref());
+        }
+        self.report.end();
+        let mut counts = banks::Counts::new();
+        for group in banks::GROUPS {
+            self.bank_group(group, &mut counts);
+        }
+        print_bank_branches(&counts);
+        self.report.begin("branches of the bank taken");
+        for (name, count) in counts.table() {
+            self.report.check(count > 0, &format!("never taken: {}", name));
+        }
+        self.report.end();
+    }
+
+    /// A law that this program broke is a failure even where the other program breaks it too.
+    fn bank_group(&mut self, (name, count, make): banks::Group, counts: &mut banks::Counts) {
+        let seed = self.options.seed;
+        let mut faults = Vec::new();
+        self.report.begin(name);
+        self.batches(count, |number| {
+            let case = make(seed, number, counts);
+            faults.extend(case.faults.iter().map(|fault| format!("{}: {}", case.name, fault)));
+            Case { name: case.name, input: case.input }
+        });
+        faults.iter().for_each(|fault| self.report.fail(fault));
+        self.report.end();
+    }
+}
+
+fn print_bank_branches(counts: &banks::Counts) {
+    println!("branches of the bank, on pools with every byte compared:");
+    for (name, count) in counts.table() {
+        println!("{:>8}  {}", count, name);
+    }
 }
 
 pub fn print_branches(by_tapes: &Counts, by_images: &Counts) {
@@ -220,6 +265,11 @@ pub fn count(seed: u64) {
     (0..IMAGES).for_each(|number| drop(sound_image_case(seed, number, &mut by_images)));
     (0..RUNS).for_each(|number| drop(run_case(seed, number, &mut by_images)));
     print_branches(&by_tapes, &by_images);
+    let mut counts = banks::Counts::new();
+    for (_, count, make) in banks::GROUPS {
+        (0..count).for_each(|number| drop(make(seed, number, &mut counts)));
+    }
+    print_bank_branches(&counts);
 }
 
 /// How many damaged images of each sort this program finds sound; some rightly are.

@@ -3,10 +3,12 @@
 //!
 //!   second tape                    a tape on standard input, its lines on standard output
 //!   second probe                   probe commands on standard input, a line for each
-//!   second compare --tape "COMMAND" --probe "COMMAND" [--seed N] [--keep DIR]
+//!   second compare --tape "COMMAND" --probe "COMMAND" [--seed N] [--keep DIR] [--pool-only]
 //!                                  holds both programs, each a command for a shell,
 //!                                  against this one; failing inputs are kept in DIR
-//!                                  (target/compare); the last line is `N passed, M failed`
+//!                                  (target/compare); the last line is `N passed, M failed`;
+//!                                  --pool-only leaves the piston bank out, for a probe that has
+//!                                  none
 //!   second self [--seed N]         checks of this program by itself, with the same last line
 //!   second count [--seed N]        only the branches that the random inputs take
 //!   second work N K                probe commands: a pool of N bytes full of 8-byte blocks, and K
@@ -16,8 +18,10 @@
 //! The state is vectors of blocks and ordered lists (state.rs). The rules make a new state from
 //! the old one (rules.rs), and all governed bytes of it are laid over the old bytes (layout.rs).
 //! A pool is read by rebuilding the state and comparing every governed byte. calls.rs joins the
-//! two and keeps the order of refusals.
+//! two and keeps the order of refusals. The piston bank stands on these calls (bank.rs).
 
+mod bank;
+mod banks;
 mod branches;
 mod calls;
 mod cases;
@@ -34,6 +38,7 @@ mod rules;
 mod script;
 mod selfcheck;
 mod state;
+mod tally;
 mod tape;
 mod tapes;
 
@@ -67,7 +72,10 @@ fn usage(fault: &str) -> ! {
     eprintln!("second: {}", fault);
     eprintln!("usage: second tape | probe | self [--seed N] | count [--seed N]");
     eprintln!("       second work N K | pools [--seed N]");
-    eprintln!("       second compare --tape \"COMMAND\" --probe \"COMMAND\" [--seed N] [--keep DIR]");
+    eprintln!(
+        "       second compare --tape \"COMMAND\" --probe \"COMMAND\" [--seed N] [--keep DIR]"
+    );
+    eprintln!("                      [--pool-only]");
     exit(2)
 }
 
@@ -136,5 +144,6 @@ fn compare_options(words: &[String]) -> compare::Options {
         probe: command_words(words, "--probe"),
         seed: seed(words),
         keep: PathBuf::from(option(words, "--keep").unwrap_or("target/compare")),
+        pool_only: words.iter().any(|word| word == "--pool-only"),
     }
 }

@@ -1,12 +1,15 @@
-//! The probe: commands on one pool image, one line for each.
+//! The probe: commands on one pool image and one piston bank, one line for each.
 
+use crate::bank::{self, Bank, PISTONS};
 use crate::calls;
+use crate::rules::Refusal;
 use crate::state::GREATEST_POOL;
 use crate::tape::{figures_line, unreadable_line};
 use std::fmt::Write;
 
 const GREATEST_LIST: usize = 64;
 const GREATEST_WRITE: usize = 65_536;
+const GREATEST_BODY: usize = 64;
 
 #[derive(Clone, Debug, PartialEq, Eq)]
 pub enum Command<'a> {
@@ -21,6 +24,12 @@ pub enum Command<'a> {
     Figures,
     Classes(usize),
     Dump,
+    Bank(Bank),
+    /// Piston, kind, body.
+    Set(u32, u8, &'a [u8]),
+    Clear(u32),
+    Recall(u32),
+    Pistons,
 }
 
 /// Takes commands off the front of the input.
@@ -46,6 +55,14 @@ impl<'a> Reader<'a> {
     fn number(&mut self) -> Option<u32> {
         let body = self.bytes(4)?;
         Some(u32::from_le_bytes([body[0], body[1], body[2], body[3]]))
+    }
+
+    fn bank(&mut self) -> Option<Bank> {
+        let mut bank = [0; PISTONS];
+        for number in &mut bank {
+            *number = self.number()?;
+        }
+        Some(bank)
     }
 
     fn count(&mut self, greatest: usize) -> Option<usize> {
@@ -79,6 +96,16 @@ impl<'a> Reader<'a> {
             b'S' => Command::Figures,
             b'C' => Command::Classes(self.count(GREATEST_LIST)?),
             b'D' => Command::Dump,
+            b'B' => Command::Bank(self.bank()?),
+            b'K' => {
+                let piston = self.number()?;
+                let kind = self.bytes(1)?[0];
+                let k = self.count(GREATEST_BODY)?;
+                Command::Set(piston, kind, self.bytes(k)?)
+            }
+            b'Q' => Command::Clear(self.number()?),
+            b'R' => Command::Recall(self.number()?),
+            b'V' => Command::Pistons,
             _ => return None,
         })
     }
@@ -98,7 +125,7 @@ fn hex(bytes: &[u8]) -> String {
     text
 }
 
-fn answer_line(letter: char, answer: Result<usize, crate::rules::Refusal>) -> String {
+fn answer_line(letter: char, answer: Result<usize, Refusal>) -> String {
     let (number, value) = calls::number_and_value(&answer);
     format!("{} {} {}", letter, number, value)
 }
@@ -127,34 +154,73 @@ fn classes(pool: &[u8], k: usize) -> String {
     line
 }
 
-fn serve(pool: &mut Vec<u8>, command: Command) -> String {
-    match command {
-        Command::Image(bytes) => {
-            *pool = bytes.to_vec();
-            format!("I 0 {}", pool.len())
+/// A refused recall gives the empty part, as that of an empty piston does.
+fn recall(bench: &Bench, piston: u32) -> String {
+    let (number, record) = match bank::recall(&bench.pool, &bench.bank, piston) {
+        Ok(part) => (0, &bench.pool[part]),
+        Err(refusal) => (refusal.number(), &[][..]),
+    };
+    format!("R {} {} {}", number, record.len(), hex(record))
+}
+
+fn pistons(bank: &Bank) -> String {
+    let mut line = format!("V 0 {}", bank.len());
+    for number in bank {
+        write!(line, " {}", number).unwrap();
+    }
+    line
+}
+
+/// What the commands work on. Before the first I the pool has no bytes; before the first B every
+/// piston is empty.
+#[derive(Clone, Debug, Default, PartialEq, Eq)]
+pub struct Bench {
+    pub pool: Vec<u8>,
+    pub bank: Bank,
+}
+
+impl Bench {
+    /// The command's line.
+    pub fn serve(&mut self, command: Command) -> String {
+        let Bench { pool, bank } = self;
+        match command {
+            Command::Image(bytes) => {
+                *pool = bytes.to_vec();
+                format!("I 0 {}", pool.len())
+            }
+            Command::LayOut => answer_line('L', calls::lay_out(pool)),
+            Command::Inspect => answer_line('N', calls::inspect(pool)),
+            Command::Take(s) => answer_line('T', calls::take(pool, s)),
+            Command::GiveBack(offset) => answer_line('G', calls::give_back(pool, offset)),
+            Command::Ask(offset) => answer_line('A', calls::ask(pool, offset)),
+            Command::ReadPart(offset) => read_part(pool, offset),
+            Command::WritePart(offset, bytes) => write_part(pool, offset, bytes),
+            Command::Figures => figures_line(pool),
+            Command::Classes(k) => classes(pool, k),
+            Command::Dump => format!("D 0 {} {}", pool.len(), hex(pool)),
+            Command::Bank(numbers) => {
+                *bank = numbers;
+                format!("B 0 {}", bank.len())
+            }
+            Command::Set(piston, kind, body) => {
+                answer_line('K', bank::set(pool, bank, piston, kind, body))
+            }
+            Command::Clear(piston) => answer_line('Q', bank::clear(pool, bank, piston)),
+            Command::Recall(piston) => recall(self, piston),
+            Command::Pistons => pistons(bank),
         }
-        Command::LayOut => answer_line('L', calls::lay_out(pool)),
-        Command::Inspect => answer_line('N', calls::inspect(pool)),
-        Command::Take(s) => answer_line('T', calls::take(pool, s)),
-        Command::GiveBack(offset) => answer_line('G', calls::give_back(pool, offset)),
-        Command::Ask(offset) => answer_line('A', calls::ask(pool, offset)),
-        Command::ReadPart(offset) => read_part(pool, offset),
-        Command::WritePart(offset, bytes) => write_part(pool, offset, bytes),
-        Command::Figures => figures_line(pool),
-        Command::Classes(k) => classes(pool, k),
-        Command::Dump => format!("D 0 {} {}", pool.len(), hex(pool)),
     }
 }
 
 /// All lines of a run of commands.
 pub fn run(input: &[u8]) -> String {
-    let mut pool = Vec::new();
+    let mut bench = Bench::default();
     let mut lines = String::new();
     let mut reader = Reader::new(input);
     while !reader.at_end() {
         match reader.command() {
             Some(command) => {
-                lines.push_str(&serve(&mut pool, command));
+                lines.push_str(&bench.serve(command));
                 lines.push('\n');
             }
             None => {

@@ -12,6 +12,10 @@ pub enum Refusal {
     NotHeld = 5,
     ListLength = 6,
     Unreadable = 7,
+    /// From here on the piston bank's own.
+    NoPiston = 10,
+    NotARecord = 11,
+    WrongBank = 12,
 }
 
 impl Refusal {

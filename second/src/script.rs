@@ -1,5 +1,6 @@
 //! Writes probe commands, and says in words which command or record a line answers.
 
+use crate::bank::Bank;
 use crate::probe::{Command, Reader};
 use crate::tape::Request;
 
@@ -19,13 +20,13 @@ impl Script {
         self
     }
 
-    /// A command without a body: L, N, S or D.
+    /// A command without a body: L, N, S, D or V.
     pub fn plain(&mut self, letter: u8) -> &mut Script {
         self.input.push(letter);
         self
     }
 
-    /// A command with one number: T, G, A, P or C.
+    /// A command with one number: T, G, A, P, C, Q or R.
     pub fn number(&mut self, letter: u8, number: u32) -> &mut Script {
         self.input.push(letter);
         self.input.extend_from_slice(&number.to_le_bytes());
@@ -36,6 +37,20 @@ impl Script {
         self.number(b'W', offset);
         self.input.extend_from_slice(&(bytes.len() as u32).to_le_bytes());
         self.input.extend_from_slice(bytes);
+        self
+    }
+
+    pub fn bank(&mut self, bank: &Bank) -> &mut Script {
+        self.input.push(b'B');
+        self.input.extend(bank.iter().flat_map(|number| number.to_le_bytes()));
+        self
+    }
+
+    pub fn set(&mut self, piston: u32, kind: u8, body: &[u8]) -> &mut Script {
+        self.number(b'K', piston);
+        self.input.push(kind);
+        self.input.extend_from_slice(&(body.len() as u32).to_le_bytes());
+        self.input.extend_from_slice(body);
         self
     }
 }
@@ -86,5 +101,12 @@ fn in_words(command: &Command) -> String {
         Command::Inspect => "N".to_string(),
         Command::Figures => "S".to_string(),
         Command::Dump => "D".to_string(),
+        Command::Bank(bank) => format!("B of {:?}", bank),
+        Command::Set(piston, kind, body) => {
+            format!("K {}, kind {}, a body of {} bytes", piston, kind, body.len())
+        }
+        Command::Clear(piston) => format!("Q {}", piston),
+        Command::Recall(piston) => format!("R {}", piston),
+        Command::Pistons => "V".to_string(),
     }
 }

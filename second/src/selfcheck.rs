@@ -1,6 +1,7 @@
 //! Checks of this program by itself: cases by hand, starred words, and on every step of random
 //! runs that the state stays well formed and that its bytes give it back.
 
+use crate::banks;
 use crate::branches::Counts;
 use crate::cases;
 use crate::damage;
@@ -26,6 +27,7 @@ pub fn run(seed: u64, keep: &Path) -> bool {
     random_runs(&mut report, seed);
     sound_images(&mut report, seed);
     damaged_images(&mut report, seed);
+    bank_laws(&mut report, seed);
     report.close()
 }
 
@@ -42,6 +44,9 @@ fn by_hand(report: &mut Report) {
         if let Some(lines) = case.lines {
             report.check(probe::run(&case.input) == lines, &case.name);
         }
+    }
+    for case in banks::fixed::cases().into_iter().chain(banks::fixed::edges()) {
+        report.check(Some(probe::run(&case.input)) == case.lines, &case.name);
     }
     report.end();
 }
@@ -209,6 +214,21 @@ fn damaged_images(report: &mut Report, seed: u64) {
             Err(_) => true,
         };
         report.check(holds, &format!("seed {}, damaged image {}", seed, number));
+    }
+    report.end();
+}
+
+/// The bank's cases of the comparison, for their calls' own sake: each was held to the bank's laws
+/// as the case was made.
+fn bank_laws(report: &mut Report, seed: u64) {
+    report.begin("laws of the bank");
+    let mut counts = banks::Counts::new();
+    for (_, count, make) in banks::GROUPS {
+        for number in 0..count {
+            let case = make(seed, number, &mut counts);
+            let what = format!("{}: {:?}", case.name, case.faults.first());
+            report.check(case.faults.is_empty(), &what);
+        }
     }
     report.end();
 }

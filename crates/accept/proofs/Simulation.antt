@@ -2,10 +2,9 @@
 use mathlib.Core.Bool.{Bool, false, true}
 use mathlib.Core.List.{List, [], _∷_}
 use mathlib.Core.Path.{_∙_, _≡_, ap, refl, subst, sym}
-use Prim.Native.Nat.{_%_, _*_, _+_, _-_, _/_, _<_, _^_, _≤_, suc, zero, ℕ}
-use native.Mathlib.Nat.{zero-div}
+use Prim.Native.Nat.{_%_, _*_, _+_, _-_, _/_, _<_, _≤_, suc, zero, ℕ}
 use native.Mathlib.Omega.{arith}
-use lib.ListN.{List·getD-eq-default, getD, getD-replicate, length, length-replicate, replicate}
+use lib.ListN.{length, length-replicate, replicate}
 use Rattle.guards.proofs.Guards.{All}
 use Rattle.accept.proofs.MarkLists.{count-remove, listMarks, remove}
 use Rattle.accept.proofs.Tested.{rest-stands}
@@ -16,42 +15,26 @@ use Rattle.accept.specs.Inspect.{inspect, scanned, size-tests}
 use Rattle.lists.specs.Lists.{Left, chain, first-tests, follow, if-left, large-tests, left, lists, lost, nextBin, nextLarge, nextSmall, small-tests, smalls}
 use Rattle.marks.specs.MarkSets.{bitMarks, markAt}
 use Rattle.guards.specs.Tests.{Test, guard, holds, less, same}
-use Rattle.marks.proofs.Laws.{bit-out, has-other, has-same, length-put}
-use Rattle.marks.specs.Marks.{bitAt, putBitAt}
+use Rattle.marks.proofs.Laws.{length-put}
+use Rattle.marks.proofs.StartMarks.{mark-at-most-one, mark-put, marked-place, none-marked}
+use Rattle.marks.specs.Marks.{putBitAt}
 use Rattle.paper.proofs.reads.Allowed.{allowed-inv}
 use Rattle.paper.proofs.bins.Bins.{count-cons, count-nil, count-there}
 use Rattle.paper.specs.Bins.{count}
 use Rattle.paper.specs.Layout.{blocks-at, false-block, free-word-at, small-bins}
-use Rattle.words.specs.Choice.{by<, by=, if=, if=-no, if=-yes, ifs}
+use Rattle.words.specs.Choice.{by<, by=, if=-no, if=-yes, ifs}
 use Rattle.words.specs.Words.{wordAt}
 
 pub record Rep (ms ws : List ℕ) : Type 0 where
   pub long : length ws ≡ 128
   pub same-bits : (x : ℕ) → count x ms ≡ markAt ws x
 
-bit-put : (ws : List ℕ) (q c x : ℕ) → c < 2 → q / 8 / 64 < length ws → q % 8 ≡ 0 → markAt (putBitAt ws (q / 8) c) x ≡ if= q x c (markAt ws x)
-unfolding markAt
-bit-put ws q c x c2 l al =
-    by= q x
-    (λ e. if=-yes (x % 8) 0 _ _ (omega arith) ∙ ap (λ (v : ℕ). bitAt (putBitAt ws (q / 8) c) (v / 8)) (sym e) ∙ has-same ws (q / 8) c c2 l
-    ∙ sym (if=-yes q x _ _ e))
-    (λ n. by= (x % 8) 0
-    (λ a. if=-yes (x % 8) 0 _ _ a ∙ has-other ws (q / 8) c (x / 8) c2 l (λ e. n (omega arith)) ∙ sym (if=-no q x _ _ n ∙ if=-yes (x % 8) 0 _ _ a))
-    (λ a. if=-no (x % 8) 0 _ _ a ∙ sym (if=-no q x _ _ n ∙ if=-no (x % 8) 0 _ _ a)))
-
 -- what is marked is a place of the bits
 in-place : (ms ws : List ℕ) (q : ℕ) → Rep ms ws → 1 ≤ count q ms → (q % 8 ≡ 0) × (q / 8 / 64 < length ws)
-unfolding markAt
-in-place ms ws q r o =
-    by= (q % 8) 0
-    (λ a. by< (q / 8 / 64) (length ws) (λ l. (a, l))
-    (λ l. absurd (omega (arith, r .same-bits q, if=-yes {A = ℕ} (q % 8) 0 (bitAt ws (q / 8)) 0 a, bit-out ws (q / 8) l))))
-    (λ a. absurd (omega (arith, r .same-bits q, if=-no {A = ℕ} (q % 8) 0 (bitAt ws (q / 8)) 0 a)))
+in-place ms ws q r o = marked-place ws q (omega (arith, r .same-bits q))
 
 rep-once : (ms ws : List ℕ) (x : ℕ) → Rep ms ws → count x ms ≤ 1
-unfolding markAt bitAt
-rep-once ms ws x r = by= (x % 8) 0 (λ a. omega (arith, r .same-bits x, if=-yes {A = ℕ} (x % 8) 0 (bitAt ws (x / 8)) 0 a))
-    (λ a. omega (arith, r .same-bits x, if=-no {A = ℕ} (x % 8) 0 (bitAt ws (x / 8)) 0 a))
+rep-once ms ws x r = omega (arith, r .same-bits x, mark-at-most-one ws x)
 
 rep-drop : (ms ws : List ℕ) (q : ℕ) → Rep ms ws → 1 ≤ count q ms → Rep (remove q ms) (putBitAt ws (q / 8) 0)
 rep-drop ms ws q r o =
@@ -64,7 +47,7 @@ rep-drop ms ws q r o =
             arith,
             count-remove q x ms o,
             if=-yes {A = ℕ} q x 1 0 e,
-            bit-put ws q 0 x (omega arith) (i .1) (i .0),
+            mark-put ws q 0 x (omega arith) (i .1) (i .0),
             if=-yes {A = ℕ} q x 0
                 (markAt ws x) e,
           ))
@@ -73,7 +56,7 @@ rep-drop ms ws q r o =
             r .same-bits x,
             count-remove q x ms o,
             if=-no {A = ℕ} q x 1 0 n,
-            bit-put ws q 0 x (omega arith) (i .1) (i .0),
+            mark-put ws q 0 x (omega arith) (i .1) (i .0),
             if=-no
                 {A = ℕ} q x 0 (markAt ws x) n,
           ));
@@ -90,7 +73,7 @@ rep-put ms ws p r o al l =
             count-cons x p ms,
             ap (λ (v : ℕ). count v ms) e,
             if=-yes {A = ℕ} p x 1 0 e,
-            bit-put ws p 1 x (omega arith) i al,
+            mark-put ws p 1 x (omega arith) i al,
             if=-yes
                 {A = ℕ} p x 1 (markAt ws x) e,
           ))
@@ -99,7 +82,7 @@ rep-put ms ws p r o al l =
             r .same-bits x,
             count-cons x p ms,
             if=-no {A = ℕ} p x 1 0 n,
-            bit-put ws p 1 x (omega arith) i al,
+            mark-put ws p 1 x (omega arith) i al,
             if=-no {A = ℕ} p x 1
                 (markAt ws x) n,
           ));
@@ -194,19 +177,7 @@ module _ (bs : List ℕ) where
       (rep-put ms ws p r (fresh p (omega arith)) al (omega arith)) (λ x l. count-there p x ms (omega arith) ∙ fresh x (omega arith))))))))
 
   rep-empty : Rep [] (replicate 128 0)
-  unfolding markAt bitAt
-  rep-empty = record {
-    long = length-replicate {A = ℕ} 128 0;
-    same-bits = λ x. count-nil x ∙ sym (by= (x % 8) 0
-        (λ a. if=-yes (x % 8) 0 _ _ a ∙ ap (λ (v : ℕ). v / 2 ^ (x / 8 % 64) % 2) (zero-at (x / 8 / 64))
-        ∙ ap (λ (v : ℕ). v % 2) (zero-div (2 ^ (x / 8 % 64))))
-        (λ a. if=-no (x % 8) 0 _ _ a));
-  }
-    where
-      zero-at : (i : ℕ) → getD {A = ℕ} (replicate 128 0) i 0 ≡ 0
-      zero-at i = by< i 128 (λ l. getD-replicate 128 i 0 0 l)
-          (λ l. let len : length {A = ℕ} (replicate 128 0) ≡ 128 = length-replicate {A = ℕ} 128 0 in
-          let m : length {A = ℕ} (replicate 128 0) ≤ i = omega arith in List·getD-eq-default (replicate 128 0) 0 m)
+  rep-empty = record { long = length-replicate {A = ℕ} 128 0; same-bits = λ x. count-nil x ∙ sym (none-marked 128 x) }
 
   pub sim-scanned : R bs ≤ E bs → E bs ≤ length bs → length bs ≤ 65536 → E bs % 8 ≡ 0
       → RepScan (length bs) (scanned listMarks bs) (scanned bitMarks bs)

@@ -1,8 +1,13 @@
 // The public calls for C: crate pool's own, each of which answers one number of 64 bits, with the refusal's number in its upper
 // half and the value in its lower half. A slice is a pointer and a length in C (include/pool.h). None has a precondition, and
-// each contract is an equation with the pool's definition of the call.
+// each contract is an equation with the pool's definition of the call. `pistons` has the piston bank's, with the bank's definitions.
 mod fill;
 mod halves;
+mod pistons;
+
+pub use pistons::bank_clear;
+pub use pistons::bank_recall;
+pub use pistons::bank_set;
 
 ghost use mathlib.Core.Path.{_≡_};
 ghost use Rattle.pool.specs.Calls as call;

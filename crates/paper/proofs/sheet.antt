@@ -7,4 +7,3 @@ pub mod FreeWordLast
 pub mod Phases
 pub mod Fields
 pub mod Within
-pub mod Parts

@@ -9,7 +9,7 @@ use Rattle.paper.specs.declared.Answer.{Answer}
 use Rattle.paper.specs.declared.Answer.the-variants.{Done, Refused}
 use Rattle.paper.specs.declared.Tally.{Tally}
 use Rattle.paper.specs.declared.Tally.the-variants.{Counted, Refused as Uncounted}
-use Rattle.paper.specs.Answers.{Out, out, not-allowed, not-sound, list-length}
+use Rattle.paper.specs.Answers.{Out, out, not-allowed, not-sound, not-held, list-length}
 use Rattle.paper.specs.Allowed.{Allowed, allowed}
 use Rattle.paper.specs.Blocks.{State, blocks}
 use Rattle.paper.specs.Runs.{sumOf}
@@ -19,6 +19,7 @@ use Rattle.paper.specs.Sound.{Sound}
 use Rattle.paper.specs.Fresh.{fresh}
 use Rattle.paper.specs.Granting.{Result, take}
 use Rattle.paper.specs.GivingBack.{ask, giveBack}
+use Rattle.paper.specs.AskingAll.{allHeld}
 use Rattle.paper.specs.LookingUp.{lookUp, byOffset}
 use Rattle.paper.specs.Counting.{heldOne, figures, classCounters}
 
@@ -66,6 +67,10 @@ giveBackCall r bs offset = byReading r (unchanged bs) (λ s. leaves (giveBack s 
 
 abbrev pub askCall : Reading → ℕ → Answer
 askCall r offset = byReading r Refused (λ s. ask s offset)
+
+-- about a list of offsets: refused as asking about one of them would be, also where one stands there twice
+abbrev pub askAllCall : Reading → List ℕ → List ℕ → Answer
+askAllCall r bs offsets = byReading r Refused (λ s. when (allHeld s offsets) (Done (length bs)) (Refused not-held))
 
 -- "A refused lend returns the empty part at the pool's end.": where the part starts and where it ends
 abbrev pub lendFrom : Reading → List ℕ → ℕ → ℕ

@@ -12,6 +12,7 @@ pub mod Granting
 pub mod LargestGrant
 pub mod LookingUp
 pub mod GivingBack
+pub mod AskingAll
 pub mod Counting
 pub mod Calls
 pub mod Honest

@@ -6,7 +6,7 @@ use denote.Ref.{RefT, ptr, now}
 use Rattle.paper.specs.declared.Answer.{Answer}
 use Rattle.paper.specs.declared.Tally.{Tally}
 use Rattle.paper.specs.Answers.{Out, out}
-use Rattle.pool.specs.Calls.{layOut, inspect, take, giveBack, ask, Lent, figures, classCount}
+use Rattle.pool.specs.Calls.{layOut, inspect, take, giveBack, ask, askAll, Lent, figures, classCount}
 
 -- an outcome is an answer and the bytes afterwards
 same-outcome : (o : Out) (r r' : Answer) (a a' : List ℕ) → o ≡ out r a → o ≡ out r' a' → (r ≡ r') × (a ≡ a')
@@ -31,6 +31,9 @@ module _ (bs : List ℕ) where
 
   pub ask-determined : (offset : ℕ) (r r' : Answer) → r ≡ ask bs offset → r' ≡ ask bs offset → r ≡ r'
   ask-determined offset = same-answer (ask bs offset)
+
+  pub ask-all-determined : (offsets : List ℕ) (r r' : Answer) → r ≡ askAll bs offsets → r' ≡ askAll bs offsets → r ≡ r'
+  ask-all-determined offsets = same-answer (askAll bs offsets)
 
   pub figures-determined : (r r' : Tally) → r ≡ figures bs → r' ≡ figures bs → r ≡ r'
   figures-determined = same-answer (figures bs)

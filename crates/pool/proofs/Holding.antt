@@ -16,6 +16,7 @@ use Rattle.paper.specs.GivingBack.{ask as askState, giveBack as giveBackState}
 use Rattle.paper.specs.Governed.{sheet}
 use Rattle.paper.specs.Granting.{take as takeState}
 use Rattle.paper.specs.Sheet.{write}
+use Rattle.paper.specs.Sound.{Sound}
 use Rattle.paper.proofs.keeps.BackKeeps.{giveBack-keeps}
 use Rattle.paper.proofs.keeps.BackThenHeld.{giveBack-then-others}
 use Rattle.paper.proofs.keeps.Kept.{Kept}
@@ -29,7 +30,8 @@ use Rattle.paper.proofs.runs.Asking.{ask-done}
 use Rattle.paper.proofs.runs.HeldPlaces.{heldAt}
 use Rattle.paper.proofs.runs.HeldWalk.{held-within}
 use Rattle.paper.proofs.runs.LookedUp.{lookUp-held}
-use Rattle.paper.proofs.sheet.Parts.{part-replaced, part-same, replaced-below, replaced-bytes, replaced-length, replaced-past, replacedPart}
+use Rattle.words.proofs.Parts.{part-replaced, part-same, replaced-below, replaced-bytes, replaced-length, replaced-past}
+use Rattle.words.specs.Parts.{replacedPart}
 use Rattle.paper.proofs.sheet.WrittenBytes.{write-bytes}
 use Rattle.pool.specs.Calls.{take, giveBack, ask, part, partFrom, partTo}
 use Rattle.reading.specs.Read.{read}
@@ -43,13 +45,13 @@ pub record Held (bs : List ℕ) (offset : ℕ) (payload : List ℕ) : Type 0 whe
 -- ---- by the state
 
 -- the bytes of the payload that the state s holds at an offset
-abbrev payloadOf : State → List ℕ → ℕ → List ℕ
+abbrev pub payloadOf : State → List ℕ → ℕ → List ℕ
 payloadOf s bs offset = firsts (heldAt s offset - 4) (drop offset bs)
 
-read-is : (bs : List ℕ) → Bytes bs → (s : State) → Reads bs (sound s) → read bs ≡ sound s
+pub read-is : (bs : List ℕ) → Bytes bs → (s : State) → Reads bs (sound s) → read bs ≡ sound s
 read-is bs bytes s r = reading-unique bs (read bs) (sound s) (reads bs bytes) r
 
-reads-stands : (bs : List ℕ) (s : State) → Reads bs (sound s) → Stands s bs
+pub reads-stands : (bs : List ℕ) (s : State) → Reads bs (sound s) → Stands s bs
 reads-stands bs s r = subst (λ (t : State). Stands t bs) (r .1) (sound-stands bs (r .0))
 
 module _ (bs : List ℕ) (offset : ℕ) where
@@ -68,7 +70,7 @@ module _ (bs : List ℕ) (offset : ℕ) where
     pub bytes-of : payload ≡ payloadOf s bs offset
 
   module _ (bytes : Bytes bs) where
-    held-by : (payload : List ℕ) → Held bs offset payload → (s : State) × HeldBy s payload
+    pub held-by : (payload : List ℕ) → Held bs offset payload → (s : State) × HeldBy s payload
     unfolding ask askState
     held-by payload h = go (read bs) refl (reads bs bytes) (h .asked)
       where
@@ -83,16 +85,20 @@ module _ (bs : List ℕ) (offset : ℕ) where
             let one : 1 ≤ heldAt s offset = omega (arith, ask-done s (S .well-formed) offset (length payload) a .0) in
             (s, record { reading = r; one = one; bytes-of = sym (h .lent) ∙ part-by s S e one })
 
+    pub payload-long : (s : State) → Reads bs (sound s) → 1 ≤ heldAt s offset → length (payloadOf s bs offset) ≡ heldAt s offset - 4
+    payload-long s r l =
+        let S = reads-stands bs s r in
+        length-take-le (heldAt s offset - 4) (drop offset bs)
+        (omega (arith, length-drop offset bs, held-within s (S .well-formed) offset (omega arith) .ends, S .ends))
+
     pub by-held : (s : State) → Reads bs (sound s) → 1 ≤ heldAt s offset → Held bs offset (payloadOf s bs offset)
     unfolding ask askState
     by-held s r l =
         let S = reads-stands bs s r in
-        let k : length (payloadOf s bs offset) ≡ heldAt s offset - 4 =
-        length-take-le (heldAt s offset - 4) (drop offset bs)
-        (omega (arith, length-drop offset bs, held-within s (S .well-formed) offset (omega arith) .ends, S .ends)) in
         record {
           asked =
-              ap (λ (x : Reading). askCall x offset) (read-is bs bytes s r) ∙ lookUp-held offset _ _ s (S .well-formed .sized) (omega arith) ∙ ap Done (sym k);
+              ap (λ (x : Reading). askCall x offset) (read-is bs bytes s r) ∙ lookUp-held offset _ _ s (S .well-formed .sized) (omega arith)
+              ∙ ap Done (sym (payload-long s r l));
           lent = part-by s S (read-is bs bytes s r) l;
         }
 
@@ -124,6 +130,23 @@ module _ (bs : List ℕ) (bytes : Bytes bs) (offset : ℕ) (payload : List ℕ) 
   in-pool : offset + (heldAt s offset - 4) ≤ end s
   in-pool = held-within s (stands .well-formed) offset (λ e. omega (arith, by .one)) .ends
 
+  long : length payload ≡ heldAt s offset - 4
+  long = ap length (by .bytes-of) ∙ payload-long bs offset bytes s (by .reading) (by .one)
+
+  -- where it stands: 0 is no offset, and the payload is the part that starts there
+  pub record Stands-there : Type 0 where
+    pub not-zero : offset ≢ 0
+    pub within : offset + length payload ≤ length bs
+    pub from-there : firsts (length payload) (drop offset bs) ≡ payload
+
+  pub held-there : Stands-there
+  held-there =
+      record {
+        not-zero = λ e. omega (arith, held-within s (stands .well-formed) offset (λ z. omega (arith, by .one)) .starts);
+        within = omega (arith, long, in-pool, stands .ends);
+        from-there = ap (λ (k : ℕ). firsts k (drop offset bs)) long ∙ sym (by .bytes-of);
+      }
+
   -- what a call leaves that keeps this block held
   left-held : (after : List ℕ) (s' : State) → after ≡ write (sheet s') bs → Kept s s' → heldAt s' offset ≡ heldAt s offset → Held after offset payload
   left-held after s' e k g =
@@ -147,29 +170,26 @@ module _ (bs : List ℕ) (bytes : Bytes bs) (offset : ℕ) (payload : List ℕ) 
   -- ---- a write inside this payload: `part` from place a on
 
   module _ (a : ℕ) (part : List ℕ) (is-bytes : Bytes part) (from : offset ≤ a) (to : a + length part ≤ offset + length payload) where
-    long : length payload ≡ heldAt s offset - 4
-    long =
-        ap length (by .bytes-of)
-        ∙ length-take-le (heldAt s offset - 4) (drop offset bs)
-        (omega (arith, length-drop offset bs, in-pool, stands .ends))
-
-    inside : a + length part ≤ length bs
-    inside = omega (arith, long, in-pool, stands .ends)
+    pub payload-inside : a + length part ≤ length bs
+    payload-inside = omega (arith, long, in-pool, stands .ends)
 
     written-reads : Reads (replacedPart bs a part) (sound s)
     written-reads =
         stands-sound s (replacedPart bs a part) (stands-payload-replaced s bs stands offset (by .one) a part from (omega (arith, long)))
+
+    pub written-sound : Sound (replacedPart bs a part)
+    written-sound = written-reads .0
 
     -- any other payload stays
     pub write-keeps-held : (other : ℕ) (old : List ℕ) → Held bs other old → other ≢ offset → Held (replacedPart bs a part) other old
     write-keeps-held other old g n =
         let k = same-state other old g in
         subst (Held (replacedPart bs a part) other)
-        (part-same other (heldAt s other - 4) bs (replacedPart bs a part) (replaced-length bs a part inside)
+        (part-same other (heldAt s other - 4) bs (replacedPart bs a part) (replaced-length bs a part payload-inside)
         (omega (arith, held-within s (stands .well-formed) other (λ e. omega (arith, k .one)) .ends, stands .ends))
         (λ i b. elsewhere i b (payloads-apart s (stands .well-formed) other offset (k .one) (by .one) n))
         ∙ sym (k .bytes-of))
-        (by-held (replacedPart bs a part) other (replaced-bytes bs a part inside bytes is-bytes) s written-reads (k .one))
+        (by-held (replacedPart bs a part) other (replaced-bytes bs a part payload-inside bytes is-bytes) s written-reads (k .one))
       where
         same-state : (other : ℕ) (old : List ℕ) → Held bs other old → HeldBy bs other s old
         same-state other old g =
@@ -180,8 +200,8 @@ module _ (bs : List ℕ) (bytes : Bytes bs) (offset : ℕ) (payload : List ℕ) 
 
         elsewhere : (i : ℕ) → i < heldAt s other - 4 → (other + (heldAt s other - 4) ≤ offset) ⊎ (offset + (heldAt s offset - 4) ≤ other)
             → getD (replacedPart bs a part) (other + i) 0 ≡ getD bs (other + i) 0
-        elsewhere i b (inl l) = replaced-below bs a part inside (other + i) (omega arith)
-        elsewhere i b (inr l) = replaced-past bs a part inside (other + i) (omega (arith, long))
+        elsewhere i b (inl l) = replaced-below bs a part payload-inside (other + i) (omega arith)
+        elsewhere i b (inr l) = replaced-past bs a part payload-inside (other + i) (omega (arith, long))
 
     -- and this one has the part in its place
     pub write-held : Held (replacedPart bs a part) offset (replacedPart payload (a - offset) part)
@@ -190,4 +210,4 @@ module _ (bs : List ℕ) (bytes : Bytes bs) (offset : ℕ) (payload : List ℕ) 
         (part-replaced bs offset (heldAt s offset - 4) a part from (omega (arith, long))
         (omega (arith, in-pool, stands .ends))
         ∙ ap (λ (l : List ℕ). replacedPart l (a - offset) part) (sym (by .bytes-of)))
-        (by-held (replacedPart bs a part) offset (replaced-bytes bs a part inside bytes is-bytes) s written-reads (by .one))
+        (by-held (replacedPart bs a part) offset (replaced-bytes bs a part payload-inside bytes is-bytes) s written-reads (by .one))

@@ -4,3 +4,6 @@ pub mod Determined
 pub mod Refused
 pub mod Holding
 pub mod LargestGrant
+pub mod Accepting
+pub mod Granted
+pub mod Named

@@ -19,17 +19,17 @@ use Rattle.paper.specs.Sheet.{Holds, write}
 use Rattle.paper.proofs.keeps.BackKeeps.{giveBack-refused}
 use Rattle.paper.proofs.keeps.TakeKeeps.{take-refused}
 use Rattle.paper.proofs.reads.Stands.{Stands}
-use Rattle.pool.specs.Calls.{layOut, inspect, take, giveBack, ask, figures, classCount}
+use Rattle.pool.specs.Calls.{layOut, inspect, take, giveBack, ask, askAll, figures, classCount}
 use Rattle.reading.specs.Read.{read}
 use Rattle.reading.proofs.Asked.{read-sound}
 
--- a public call on a pool of lent bytes, with its number or its lent list
+-- a public call on a pool of lent bytes, with its number or its list
 pub data Call : Type 0 where
   lays inspects : Call
   takes gives asks : ℕ → Call
-  counts : List ℕ → Call
+  asksAll counts : List ℕ → Call
 
--- what the call is lent for writing: the pool, or its list; a call that only reads leaves the pool as it is
+-- what the call is lent for writing: the pool, or its list of counters; a call that only reads leaves the pool as it is
 abbrev pub lent : List ℕ → Call → List ℕ
 lent bs (counts cs) = cs
 lent bs lays = bs
@@ -37,6 +37,7 @@ lent bs inspects = bs
 lent bs (takes size) = bs
 lent bs (gives offset) = bs
 lent bs (asks offset) = bs
+lent bs (asksAll offsets) = bs
 
 -- what it answers, and what was lent afterwards
 abbrev pub outcome : List ℕ → Call → Out
@@ -45,6 +46,7 @@ outcome bs inspects = out (inspect bs) bs
 outcome bs (takes size) = take bs size
 outcome bs (gives offset) = giveBack bs offset
 outcome bs (asks offset) = out (ask bs offset) bs
+outcome bs (asksAll offsets) = out (askAll bs offsets) bs
 outcome bs (counts cs) = classCount bs cs
 
 -- an outcome that is refused changes nothing
@@ -91,6 +93,7 @@ stays bs inspects = λ k e. refl
 stays bs (takes size) = takes-unchanged bs size (read bs) refl
 stays bs (gives offset) = gives-unchanged bs offset (read bs) refl
 stays bs (asks offset) = λ k e. refl
+stays bs (asksAll offsets) = λ k e. refl
 stays bs (counts cs) = counts-unchanged cs (read bs)
 
 -- "A refusal returns 0 beside its number and changes nothing."

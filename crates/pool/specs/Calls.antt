@@ -7,7 +7,7 @@ use denote.Ref.{RefT, ptr, now}
 use Rattle.paper.specs.declared.Answer.{Answer}
 use Rattle.paper.specs.declared.Tally.{Tally}
 use Rattle.paper.specs.Answers.{Out}
-use Rattle.paper.specs.Calls.{layOutCall, inspectCall, takeCall, giveBackCall, askCall, lendFrom, lendTo, figuresCall, classCountCall}
+use Rattle.paper.specs.Calls.{layOutCall, inspectCall, takeCall, giveBackCall, askCall, askAllCall, lendFrom, lendTo, figuresCall, classCountCall}
 use Rattle.reading.specs.Read.{read}
 
 unfoldable pub layOut : List ℕ → Out
@@ -24,6 +24,10 @@ giveBack bs offset = giveBackCall (read bs) bs offset
 
 unfoldable pub ask : List ℕ → ℕ → Answer
 ask bs offset = askCall (read bs) offset
+
+-- about a list of offsets, at one reading
+unfoldable pub askAll : List ℕ → List ℕ → Answer
+askAll bs offsets = askAllCall (read bs) bs offsets
 
 -- the part that is lent: where it starts and ends, and its bytes
 unfoldable pub partFrom : List ℕ → ℕ → ℕ

@@ -65,6 +65,20 @@ pub fn ask(pool: &[u8], offset: u32) -> Answer
     serving::ask(pool, offset)
 }
 
+// Whether every offset of the list that is not 0 is that of a held payload, and stands in the list once; answers the pool's length.
+pub fn ask_all(pool: &[u8], offsets: &[u32]) -> Answer
+    ensures { λ r. ⌜ r ≡ call.askAll (now (pool .entry)) (now (offsets .entry)) ⌝ }
+{
+    let why = reading::refusal(pool);
+    if why != 0 {
+        return Answer::Refused(why);
+    }
+    if !serving::all_held(pool, offsets) {
+        return Answer::Refused(paper::NOT_HELD);
+    }
+    Answer::Done(pool.len() as u32)
+}
+
 // The payload at `offset`, for reading; the empty part at the pool's end where the call is refused.
 pub fn lend(pool: &[u8], offset: u32) -> &[u8]
     ensures { λ r. ⌜ call.Lent r (pool .entry) offset ⌝ }

@@ -11,7 +11,7 @@ pub enum Outcome {
     Lost,
 }
 
-fn ended(written: bool) -> Outcome {
+pub fn ended(written: bool) -> Outcome {
     if written {
         Outcome::Written
     } else {
@@ -69,7 +69,7 @@ fn read_part(pool: &[u8], offset: u32) -> bool {
         && output::end_of_line()
 }
 
-fn length_of(part: &[u8]) -> u32 {
+pub fn length_of(part: &[u8]) -> u32 {
     let n = part.len();
     if n <= 65536 { n as u32 } else { 65537 }
 }
@@ -130,7 +130,7 @@ fn count_into(pool: &[u8], counts: &mut [u32]) -> bool {
     output::begin(b'C', answer) && counters(counts) && output::end_of_line()
 }
 
-fn counters(counts: &[u32]) -> bool {
+pub fn counters(counts: &[u32]) -> bool {
     let mut i = 0;
     while i < counts.len() {
         if !output::spaced(counts[i]) {
@@ -165,12 +165,23 @@ fn on_pool(pool: &mut [u8], body: &mut [u8], letter: u8) -> Outcome {
     }
 }
 
-pub fn step(buffer: &mut [u8], body: &mut [u8], n: usize, letter: u8) -> Next {
+pub fn step(
+    buffer: &mut [u8],
+    body: &mut [u8],
+    bank: &mut [u32; 32],
+    n: usize,
+    letter: u8,
+) -> Next {
     if letter == b'I' {
         return image(buffer);
     }
     if buffer.len() < n {
         return Next::Unreadable;
     }
-    goes_on(n, on_pool(&mut buffer[..n], body, letter))
+    match letter {
+        b'B' | b'K' | b'Q' | b'R' | b'V' => {
+            goes_on(n, crate::pistons::step(&mut buffer[..n], bank, letter))
+        }
+        _ => goes_on(n, on_pool(&mut buffer[..n], body, letter)),
+    }
 }

@@ -3,19 +3,20 @@
 mod calls;
 mod input;
 mod output;
+mod pistons;
 
 use calls::Next;
 use input::Letter;
 
 // The commands, one after the other; a run of more than 2^64 - 1 of them would end there.
-fn run(buffer: &mut [u8], body: &mut [u8]) {
+fn run(buffer: &mut [u8], body: &mut [u8], bank: &mut [u32; 32]) {
     let mut n: usize = 0;
     let mut left: u64 = 18446744073709551615;
     while left != 0 {
         let Letter::Is(letter) = input::next_letter() else {
             return;
         };
-        match calls::step(buffer, body, n, letter) {
+        match calls::step(buffer, body, bank, n, letter) {
             Next::On(length) => n = length,
             Next::Unreadable => {
                 output::unreadable();
@@ -30,5 +31,6 @@ fn run(buffer: &mut [u8], body: &mut [u8]) {
 fn main() {
     let mut buffer = [0u8; 65536];
     let mut body = [0u8; 65536];
-    run(&mut buffer, &mut body);
+    let mut bank = [0u32; 32];
+    run(&mut buffer, &mut body, &mut bank);
 }

@@ -42,6 +42,11 @@ pub fn begin(letter: u8, a: Answer) -> bool {
     text(&[letter]) && answer(a)
 }
 
+// The letter that a line begins with, and a number alone.
+pub fn number(letter: u8, v: u32) -> bool {
+    text(&[letter]) && spaced(v)
+}
+
 // A whole line of a call.
 pub fn line(letter: u8, a: Answer) -> bool {
     begin(letter, a) && end_of_line()

@@ -1,5 +1,5 @@
--- The models of the calls on a pool that is known to be sound, on a list of bytes: laying out, taking and the figures as they are below, and
--- those that look an offset up or ask how long a list is.
+-- The models of the calls on a pool that is known to be sound, on a list of bytes: laying out, taking, asking about a list of offsets and the
+-- figures as they are below, and those that look an offset up or ask how long a list is.
 use mathlib.Core.List.{List}
 use Prim.Native.Nat.{ℕ}
 use lib.ListN.{length}
@@ -14,6 +14,7 @@ use Rattle.paper.specs.LookingUp.{byOffset}
 use Rattle.giveback.specs.GiveBack as giveback
 use Rattle.walk.specs.LookUp as walk
 use Rattle.walk.specs.Classes.{classCounts}
+unfoldable pub use Rattle.asking.specs.AllHeld.{allHeld}
 unfoldable pub use Rattle.grant.specs.Take.{take}
 unfoldable pub use Rattle.walk.specs.Tallies.{tally as figures}
 unfoldable pub use Rattle.serving.specs.LayingOut.{layOut}

@@ -2,6 +2,7 @@
 // gives the paper's answer and leaves a pool that stands for the state after (proofs/).
 mod laying_out;
 
+pub use asking::all_held;
 pub use grant::take;
 pub use laying_out::lay_out;
 pub use walk::tally as figures;

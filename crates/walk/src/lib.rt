@@ -10,7 +10,7 @@ ghost use mathlib.Core.Path.{_≡_};
 ghost use Rattle.walk.specs.Blocks.{poolEnd};
 
 // Where the pool ends, as a position; no pool is longer than 65,536 bytes.
-fn pool_end(pool: &[u8]) -> u32
+pub fn pool_end(pool: &[u8]) -> u32
     ensures { λ r. ⌜ r ≡ poolEnd (now (pool .entry)) ⌝ }
 {
     let n = pool.len();

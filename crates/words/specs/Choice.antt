@@ -56,6 +56,20 @@ module _ {ℓ} {A : Type ℓ} where
   unfolding when
   when-no c x y h = rw h
 
+  -- the same either way
+  pub if=-same : (a b : ℕ) (x : A) → if= a b x x ≡ x
+  unfolding if=
+  if=-same a b x = go (eqb a b)
+    where
+      go : (c : Bool) → elim c [ true ↦ x | false ↦ x ] ≡ x
+      go true = refl
+      go false = refl
+
+  pub when-same : (c : Bool) (x : A) → when c x x ≡ x
+  unfolding when
+  when-same true x = refl
+  when-same false x = refl
+
 pub ruleset ifs = (if=-yes, if=-no, if<-yes, if<-no)
 
 -- ---- cases

@@ -21,10 +21,7 @@ use Rattle.paper.specs.Granting.{E, R, Result, refused}
 use Rattle.paper.specs.Layout.{blocks-at, large}
 use Rattle.paper.specs.Runs.{heldSize, startsAt}
 use Rattle.paper.specs.Sound.{Sized, WellFormed}
-use Rattle.words.specs.Choice.{by<, by=, if<-no, if<-yes, if=, if=-no, if=-yes}
-
-none-either : (a b : ℕ) → if= {A = ℕ} a b 0 0 ≡ 0
-none-either a b = by= a b (λ e. if=-yes a b 0 0 e) (λ n. if=-no a b 0 0 n)
+use Rattle.words.specs.Choice.{by<, by=, if<-no, if<-yes, if=, if=-no, if=-same, if=-yes}
 
 -- the held blocks of a state are those of its two runs
 pub held-runs : (s : State) → WellFormed s → (x : ℕ)
@@ -34,7 +31,7 @@ held-runs s W x =
     ∙ omega (
       arith,
       starts-cons heldSize (block (s .rest) remainder) (s .high) (R s) x (omega (arith, sized-rest s W)),
-      none-either (R s) x,
+      if=-same {A = ℕ} (R s) x 0,
     )
 
 -- s' is s without the held block of size z at q
@@ -142,7 +139,7 @@ module _ (s : State) (W : WellFormed s) (q z : ℕ) (H : HeldLow s q z) where
         low-held-parts x,
         starts-append heldSize (r .under) (block m free ∷ r .over) blocks-at x (large-parts .0),
         starts-cons heldSize (block m free) (r .over) (blocks-at + total (r .under)) x (omega (arith, r .sized)),
-        none-either (blocks-at + total (r .under)) x,
+        if=-same {A = ℕ} (blocks-at + total (r .under)) x 0,
         ap (λ (k : ℕ). startsAt heldSize (r .over) k x) (place m refl),
         ap (λ (k : ℕ). startsAt heldSize (s .high) (blocks-at + k + s .rest) x) t,
       ))

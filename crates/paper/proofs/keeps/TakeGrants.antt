@@ -147,6 +147,11 @@ module _ (s : State) (W : WellFormed s) (payload o : ℕ) (e : take s payload .a
       subst (λ (k : ℕ). heldAt (take s payload .state) k ≡ blockSize payload) (sym (r .1))
       (heldAt-in (take s payload .state) (r .0) (blockSize payload) (r .2 .0) (take-well-formed s W payload .sized) (r .2 .1))
 
+  -- it has room for the head and the payload
+  pub take-long-enough : payload + 4 ≤ heldAt (take s payload .state) o
+  unfolding blockSize
+  take-long-enough = omega (arith, take-held)
+
   pub take-was-free : (q z P : ℕ) → In (blocks s) blocks-at 1 q (block z held) P → (q + z ≤ o - 4) ⊎ (o - 4 + blockSize payload ≤ q)
   take-was-free =
       let r = take-places s W payload o e in

@@ -1,4 +1,5 @@
 -- A take keeps every well-formed state well formed, whatever is asked for, and a refused one changes nothing: by the cases of its rule.
+use mathlib.Core.Logic.{_≢_}
 use mathlib.Core.Path.{_≡_, refl}
 use Prim.Native.Nat.{_%_, _≤_, ℕ}
 use native.Mathlib.Omega.{arith}
@@ -7,6 +8,7 @@ use Rattle.paper.proofs.keeps.Choices.{by-choices}
 use Rattle.paper.proofs.keeps.Kept.{Kept, kept-same}
 use Rattle.paper.proofs.keeps.TakeLargeKeeps.{cutLow-keeps, takePart-keeps, takeWhole-keeps}
 use Rattle.paper.proofs.keeps.TakeSmallKeeps.{cutHigh-keeps, takeFirst-keeps}
+use Rattle.paper.specs.Answers.{no-room}
 use Rattle.paper.specs.declared.Answer.the-variants.{Refused}
 use Rattle.paper.specs.Blocks.{State, end}
 use Rattle.paper.specs.Granting.{Result, carryOut, cutHigh, cutLow, granted, refused, take, takeFirst, takePart, takeWhole}
@@ -48,26 +50,29 @@ take-ends s W payload = take-keeps s W payload .ends
 pub take-same-top : (s : State) → WellFormed s → (payload : ℕ) → take s payload .state .top ≡ s .top
 take-same-top s W payload = take-keeps s W payload .same-top
 
--- ---- refused
-abbrev SameIfRefused : State → Result → Type 0
-SameIfRefused s r = (k : ℕ) → r .answer ≡ Refused k → r .state ≡ s
+-- ---- refused: nothing changes, and a size that is not 0 lacks room
+abbrev IfRefused : State → ℕ → Result → Type 0
+IfRefused s payload r = (k : ℕ) → r .answer ≡ Refused k → (r .state ≡ s) × (payload ≢ 0 → k ≡ no-room)
 
-granted-same : (s : State) (q : ℕ) (s' : State) → SameIfRefused s (granted q s')
-granted-same s q s' k e = absurd (let z : _≡_ {A = ℕ} 0 1 = cc in omega arith)
+granted-not : (s : State) (payload q : ℕ) (s' : State) → IfRefused s payload (granted q s')
+granted-not s payload q s' k e = absurd (let z : _≡_ {A = ℕ} 0 1 = cc in omega arith)
 
-refused-same : (s : State) (j : ℕ) → SameIfRefused s (refused j s)
-refused-same s j k e = refl
+if-refused : (s : State) (payload : ℕ) → IfRefused s payload (take s payload)
+unfolding take takeFirst cutHigh takeWhole takePart cutLow
+if-refused s payload =
+    by-choices s payload (λ c. IfRefused s payload (carryOut s c))
+    (record {
+      without-size = λ z k e. (refl, λ n. absurd (n z));
+      without-room = λ n f r k e. (refl, λ m. cc);
+      from-its-bin = λ l n. granted-not s payload _ _;
+      from-high-end = λ l r. granted-not s payload _ _;
+      from-exact = λ l n. granted-not s payload _ _;
+      from-larger = λ l z m n. granted-not s payload _ _;
+      from-low-end = λ l r. granted-not s payload _ _;
+    })
 
 pub take-refused : (s : State) (payload k : ℕ) → take s payload .answer ≡ Refused k → take s payload .state ≡ s
-unfolding take takeFirst cutHigh takeWhole takePart cutLow
-take-refused s payload =
-    by-choices s payload (λ c. SameIfRefused s (carryOut s c))
-    (record {
-      without-size = λ e. refused-same s _;
-      without-room = λ n e r. refused-same s _;
-      from-its-bin = λ l n. granted-same s _ _;
-      from-high-end = λ l r. granted-same s _ _;
-      from-exact = λ l n. granted-same s _ _;
-      from-larger = λ l z m n. granted-same s _ _;
-      from-low-end = λ l r. granted-same s _ _;
-    })
+take-refused s payload k e = if-refused s payload k e .0
+
+pub take-refused-for-room : (s : State) (payload k : ℕ) → payload ≢ 0 → take s payload .answer ≡ Refused k → k ≡ no-room
+take-refused-for-room s payload k n e = if-refused s payload k e .1 n

@@ -15,7 +15,8 @@ use Rattle.paper.proofs.reads.Standing.{sound-stands, stands-sound}
 use Rattle.paper.proofs.reads.Stands.{Stands}
 use Rattle.paper.proofs.runs.Places.{in-apart}
 use Rattle.paper.proofs.runs.Walk.{In, in-aligned, in-high}
-use Rattle.paper.proofs.sheet.Parts.{part-same, replaced-below, replaced-length, replaced-past, replacedPart}
+use Rattle.words.proofs.Parts.{part-same, replaced-below, replaced-length, replaced-past}
+use Rattle.words.specs.Parts.{replacedPart}
 use Rattle.paper.proofs.sheet.Within.{governed-is-some}
 use Rattle.paper.proofs.sheet.Written.{holds-through, length-write, write-keeps}
 use Rattle.paper.specs.Blocks.{State, block, blocks, end, held}

@@ -32,11 +32,11 @@ heldAt-in s q z P S i =
     if<-no (q + 4) 4 _ _ (omega arith) ∙ ap (startsAt heldSize (blocks s) blocks-at) e ∙ starts-in heldSize (blocks s) blocks-at 1 q (block z held) P S i
 
 module _ (s : State) (W : WellFormed s) (offset : ℕ) where
-  ask-none : heldAt s offset ≡ 0 → ask s offset ≡ Refused not-held
+  pub ask-none : heldAt s offset ≡ 0 → ask s offset ≡ Refused not-held
   unfolding ask
   ask-none e = lookUp-none offset _ _ s (W .sized) e
 
-  ask-held : heldAt s offset ≢ 0 → ask s offset ≡ Done (heldAt s offset - 4)
+  pub ask-held : heldAt s offset ≢ 0 → ask s offset ≡ Done (heldAt s offset - 4)
   unfolding ask
   ask-held n = lookUp-held offset _ _ s (W .sized) n
 

@@ -5,8 +5,9 @@ use Prim.Native.Nat.{_+_, _-_, _<_, _≤_, ℕ}
 use native.Mathlib.Omega.{arith}
 use lib.ListN.{List·getD-append, drop, getD, length, length-append, length-drop, take as firsts}
 use lib.Seq.{ext-getD, getD-append-add, getD-drop, getD-take, length-take-le}
 use Rattle.words.specs.Choice.{by<}
+use Rattle.words.specs.Parts.{replacedPart}
 use Rattle.words.specs.Words.{Bytes}
 
 -- k bytes from a on are the same if each of them is
 pub part-same : (a k : ℕ) (bs cs : List ℕ) → length cs ≡ length bs → a + k ≤ length bs → ((i : ℕ) → i < k → getD cs (a + i) 0 ≡ getD bs (a + i) 0)
@@ -18,9 +19,7 @@ part-same a k bs cs l m h =
     (λ i b. let c : i < k = omega arith in
     getD-take k (drop a cs) i 0 c ∙ getD-drop a cs i 0 ∙ h i c ∙ sym (getD-take k (drop a bs) i 0 c ∙ getD-drop a bs i 0))
 
--- some bytes from a on replaced by others, as many
-abbrev pub replacedPart : List ℕ → ℕ → List ℕ → List ℕ
-replacedPart bs a part = firsts a bs ++ (part ++ drop (a + length part) bs)
+-- ---- some bytes from a on replaced by others, as many
 
 module _ (bs : List ℕ) (a : ℕ) (part : List ℕ) (m : a + length part ≤ length bs) where
   pub replaced-length : length (replacedPart bs a part) ≡ length bs

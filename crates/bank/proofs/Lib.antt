@@ -1,0 +1,13 @@
+pub mod Refusals
+pub mod Shown
+pub mod Banks
+pub mod RecordLaws
+pub mod Stored
+pub mod CallsKeep
+pub mod Neighbours
+pub mod RunShows
+pub mod Outcomes
+pub mod Finding
+pub mod Writing
+pub mod Determined
+pub mod Refused

@@ -1,0 +1,203 @@
+-- Asking about a list of offsets, in the words of asking about one: it is done exactly if the pool is accepted, each offset but 0 is that of a
+-- held payload, and none of them stands in the list at two places.
+use mathlib.Core.Bool.{Bool, true, false}
+use mathlib.Core.List.{List, [], _∷_}
+use mathlib.Core.Logic.{_≢_, _⊎_, inl, inr}
+use mathlib.Core.Path.{_≡_, refl, ap, _∙_, sym, subst}
+use Prim.Native.Nat.{ℕ, zero, suc, _+_, _-_, _≤_}
+use native.Mathlib.Omega.{arith}
+use lib.ListN.{getD, length}
+use Rattle.words.specs.Choice.{by=, if=, if=-no, if=-yes, when, when-no, when-yes}
+use Rattle.words.specs.Words.{Bytes}
+use Rattle.paper.proofs.runs.Asking.{ask-done}
+use Rattle.paper.proofs.runs.HeldPlaces.{heldAt}
+use Rattle.paper.specs.Answers.{not-allowed, not-held, not-sound}
+use Rattle.paper.specs.AskingAll.{allHeld, eachOnce, isDone}
+use Rattle.paper.specs.Bins.{count}
+use Rattle.paper.specs.Blocks.{State}
+use Rattle.paper.specs.Calls.{Reading, Reads, misfit, broken, sound, askCall, askAllCall, inspectCall}
+use Rattle.paper.specs.declared.Answer.{Answer}
+use Rattle.paper.specs.declared.Answer.the-variants.{Done, Refused}
+use Rattle.paper.specs.GivingBack.{ask as askState}
+use Rattle.pool.specs.Calls.{ask, askAll, inspect}
+use Rattle.pool.proofs.Accepting.{Accepted}
+use Rattle.pool.proofs.Holding.{Held, by-held, payloadOf, reads-stands}
+use Rattle.reading.specs.Read.{read}
+use Rattle.reading.proofs.Readings.{reads}
+
+-- ---- a list that names each once
+
+no-both : false ≡ true → ⊥
+no-both e = let z : _≡_ {A = ℕ} 0 1 = cc in omega arith
+
+none-there : (o : ℕ) → o ≢ 0 → (os : List ℕ) → count o os ≡ 0 → (i : ℕ) → getD os i 0 ≢ o
+unfolding count
+none-there o n [] c i e = n (sym e)
+none-there o n (x ∷ os) c zero e = omega (arith, if=-yes {A = ℕ} x o 1 0 e)
+none-there o n (x ∷ os) c (suc i) e = none-there o n os (omega arith) i e
+
+there-none : (o : ℕ) (os : List ℕ) → ((i : ℕ) → getD os i 0 ≢ o) → count o os ≡ 0
+unfolding count
+there-none o [] h = refl
+there-none o (x ∷ os) h = omega (arith, if=-no {A = ℕ} x o 1 0 (h 0), there-none o os (λ i. h (suc i)))
+
+-- what h has is had at each place, and one place has each
+pub record Once (h : ℕ → Bool) (os : List ℕ) : Type 0 where
+  pub had : (i : ℕ) → getD os i 0 ≢ 0 → h (getD os i 0) ≡ true
+  pub apart : (i j : ℕ) → getD os i 0 ≢ 0 → getD os i 0 ≡ getD os j 0 → i ≡ j
+
+module _ (h : ℕ → Bool) where
+  module _ (o : ℕ) (os : List ℕ) (r : Once h os) where
+    past-empty : o ≡ 0 → Once h (o ∷ os)
+    past-empty z =
+        record {
+          had = elim [ zero ↦ λ n. absurd (n z) | suc i ↦ λ n. r .had i n ];
+          apart = elim [
+            | zero ↦ λ j n k. absurd (n z)
+            | suc i ↦ elim [ zero ↦ λ n k. absurd (n (k ∙ z)) | suc j ↦ λ n k. ap suc (r .apart i j n k) ]
+          ];
+        }
+
+    past-named : h o ≡ true → ((i : ℕ) → getD os i 0 ≢ o) → Once h (o ∷ os)
+    past-named x other =
+        record {
+          had = elim [ zero ↦ λ n. x | suc i ↦ λ n. r .had i n ];
+          apart = elim [
+            | zero ↦ elim [ zero ↦ λ n k. refl | suc j ↦ λ n k. absurd (other j (sym k)) ]
+            | suc i ↦ elim [ zero ↦ λ n k. absurd (other i k) | suc j ↦ λ n k. ap suc (r .apart i j n k) ]
+          ];
+        }
+
+  by-flag : (b : Bool) (e : Bool) → when b e false ≡ true → (b ≡ true) × (e ≡ true)
+  unfolding when
+  by-flag true e f = (refl, f)
+  by-flag false e f = absurd (no-both f)
+
+  pub each-once : (os : List ℕ) → eachOnce h os ≡ true → Once h os
+  unfolding eachOnce
+  each-once [] e = record { had = λ i n. absurd (n refl); apart = λ i j n. absurd (n refl) }
+  each-once (o ∷ os) e =
+      by= o 0 (λ z. past-empty o os (each-once os (sym (if=-yes o 0 _ _ z) ∙ e)) z)
+      (λ n. let f = sym (if=-no o 0 _ _ n) ∙ e in
+      by= (count o os) 0
+      (λ c. let g = by-flag (h o) (eachOnce h os) (sym (if=-yes (count o os) 0 _ _ c) ∙ f) in
+      past-named o os (each-once os (g .1)) (g .0) (none-there o n os c))
+      (λ c. absurd (no-both (sym (if=-no (count o os) 0 _ _ c) ∙ f))))
+
+  pub once-each : (os : List ℕ) → Once h os → eachOnce h os ≡ true
+  unfolding eachOnce
+  once-each [] r = refl
+  once-each (o ∷ os) r =
+      let rest = once-each os (record { had = λ i. r .had (suc i); apart = λ i j n e. let k = r .apart (suc i) (suc j) n e in omega arith }) in
+      by= o 0 (λ z. if=-yes o 0 _ _ z ∙ rest)
+      (λ n. if=-no o 0 _ _ n
+      ∙ if=-yes (count o os) 0 _ _ (there-none o os (λ i e. let k = r .apart 0 (suc i) n (sym e) in omega arith))
+      ∙ when-yes (h o) _ _ (r .had 0 n) ∙ rest)
+
+-- ---- the call
+
+pub inspect-numbers : (bs : List ℕ) (k : ℕ) → inspect bs ≡ Refused k → (k ≡ not-allowed) ⊎ (k ≡ not-sound)
+unfolding inspect
+inspect-numbers bs k e = go (read bs) e
+  where
+    go : (x : Reading) → inspectCall x bs ≡ Refused k → (k ≡ not-allowed) ⊎ (k ≡ not-sound)
+    go misfit f = inl cc
+    go broken f = inr cc
+    go (sound s) f = absurd (let z : _≡_ {A = ℕ} 0 1 = cc in omega arith)
+
+-- done, it answers the length
+pub inspect-value : (bs : List ℕ) (v : ℕ) → inspect bs ≡ Done v → inspect bs ≡ Done (length bs)
+unfolding inspect
+inspect-value bs v e = go (read bs) e
+  where
+    go : (x : Reading) → inspectCall x bs ≡ Done v → inspectCall x bs ≡ Done (length bs)
+    go misfit f = absurd (let z : _≡_ {A = ℕ} 0 1 = cc in omega arith)
+    go broken f = absurd (let z : _≡_ {A = ℕ} 0 1 = cc in omega arith)
+    go (sound s) f = refl
+
+module _ (bs offsets : List ℕ) where
+  -- 1 and 2 are inspection's
+  pub ask-all-refused : (k : ℕ) → inspect bs ≡ Refused k → askAll bs offsets ≡ Refused k
+  unfolding inspect askAll
+  ask-all-refused k e = go (read bs) e
+    where
+      go : (x : Reading) → inspectCall x bs ≡ Refused k → askAllCall x bs offsets ≡ Refused k
+      go misfit f = f
+      go broken f = f
+      go (sound s) f = absurd (let z : _≡_ {A = ℕ} 0 1 = cc in omega arith)
+
+  -- else it goes by what asking says of each
+  pub ask-all-is : (v : ℕ) → inspect bs ≡ Done v
+      → askAll bs offsets ≡ when (eachOnce (λ o. isDone (ask bs o)) offsets) (Done (length bs)) (Refused not-held)
+  unfolding inspect askAll ask allHeld
+  ask-all-is v e = go (read bs) e
+    where
+      go : (x : Reading) → inspectCall x bs ≡ Done v
+          → askAllCall x bs offsets ≡ when (eachOnce (λ o. isDone (askCall x o)) offsets) (Done (length bs)) (Refused not-held)
+      go misfit f = absurd (let z : _≡_ {A = ℕ} 0 1 = cc in omega arith)
+      go broken f = absurd (let z : _≡_ {A = ℕ} 0 1 = cc in omega arith)
+      go (sound s) f = refl
+
+  pub ask-all-either : (v : ℕ) → inspect bs ≡ Done v → (askAll bs offsets ≡ Done (length bs)) ⊎ (askAll bs offsets ≡ Refused not-held)
+  unfolding when
+  ask-all-either v e = go (eachOnce (λ o. isDone (ask bs o)) offsets) (ask-all-is v e)
+    where
+      go : (b : Bool) → askAll bs offsets ≡ when b (Done (length bs)) (Refused not-held)
+          → (askAll bs offsets ≡ Done (length bs)) ⊎ (askAll bs offsets ≡ Refused not-held)
+      go true f = inl f
+      go false f = inr f
+
+-- ---- in the words of what is held
+
+pub record Names (bs offsets : List ℕ) : Type 0 where
+  pub held : (i : ℕ) → getD offsets i 0 ≢ 0 → (payload : List ℕ) × Held bs (getD offsets i 0) payload
+  pub apart : (i j : ℕ) → getD offsets i 0 ≢ 0 → getD offsets i 0 ≡ getD offsets j 0 → i ≡ j
+
+-- a payload is held where asking is done
+pub asked-held : (bs : List ℕ) → Bytes bs → (o v : ℕ) → ask bs o ≡ Done v → (payload : List ℕ) × Held bs o payload
+unfolding ask
+asked-held bs bytes o v e = go (read bs) (reads bs bytes) e
+  where
+    never : {A : Type 0} (k : ℕ) → Refused k ≡ Done v → A
+    never k f = absurd (let z : _≡_ {A = ℕ} 0 1 = cc in omega arith)
+
+    go : (x : Reading) → Reads bs x → askCall x o ≡ Done v → (payload : List ℕ) × Held bs o payload
+    go misfit r f = never _ f
+    go broken r f = never _ f
+    go (sound s) r f =
+        let S = reads-stands bs s r in
+        (payloadOf s bs o, by-held bs o bytes s r (omega (arith, ask-done s (S .well-formed) o v f .0)))
+
+done-is : (a : Answer) → isDone a ≡ true → (v : ℕ) × (a ≡ Done v)
+done-is (Done v) e = (v, refl)
+done-is (Refused k) e = absurd (no-both e)
+
+module _ (bs offsets : List ℕ) where
+  pub names-asked : Accepted bs → Names bs offsets → askAll bs offsets ≡ Done (length bs)
+  names-asked A N =
+      ask-all-is bs offsets _ (A .inspected)
+      ∙ when-yes _ _ _
+      (once-each (λ o. isDone (ask bs o)) offsets
+      (record { had = λ i n. ap isDone (N .held i n .1 .asked); apart = N .apart }))
+
+  pub asked-accepted : Bytes bs → (v : ℕ) → askAll bs offsets ≡ Done v → Accepted bs
+  asked-accepted bytes v e = go (inspect bs) refl
+    where
+      go : (a : Answer) → inspect bs ≡ a → Accepted bs
+      go (Refused k) f = absurd (let g : Refused k ≡ Done v = sym (ask-all-refused bs offsets k f) ∙ e in let z : _≡_ {A = ℕ} 0 1 = cc in omega arith)
+      go (Done w) f = record { bytes = bytes; inspected = inspect-value bs w f }
+
+  pub asked-names : Bytes bs → (v : ℕ) → askAll bs offsets ≡ Done v → Names bs offsets
+  unfolding when
+  asked-names bytes v e =
+      let A = asked-accepted bytes v e in
+      let r = each-once (λ o. isDone (ask bs o)) offsets (yes-each (eachOnce (λ o. isDone (ask bs o)) offsets) refl (sym (ask-all-is bs offsets _ (A .inspected)) ∙ e)) in
+      record {
+        held = λ i n. let d = done-is (ask bs (getD offsets i 0)) (r .had i n) in asked-held bs bytes (getD offsets i 0) (d .0) (d .1);
+        apart = r .apart;
+      }
+    where
+      yes-each : (b : Bool) → eachOnce (λ o. isDone (ask bs o)) offsets ≡ b → when b (Done (length bs)) (Refused not-held) ≡ Done v
+          → eachOnce (λ o. isDone (ask bs o)) offsets ≡ true
+      yes-each true f g = f
+      yes-each false f g = absurd (let z : _≡_ {A = ℕ} 0 1 = cc in omega arith)

@@ -1,0 +1,46 @@
+-- pool::ask_all meets its contract: refused by the reading, or served. `known` is the place where each offset is known to be one of 32 bits.
+use Rattle.pool.specs.Calls as call
+use Rattle.reading.proofs.Asked.{refused, served, served-allowed}
+use Rattle.serving.proofs.AskAllServes.{all-held-serves}
+use Rattle.words.specs.Choice.{when-no, when-yes}
+use borrow.Author.Needs.{needs}
+use borrow.Author.Tests.{not-false, not-true}
+use mathlib.Core.Path.{sym, _∙_}
+use native.Mathlib.Omega.{arith}
+use Rattle.pool.proofs.ask_all.Statement.{statement}
+use Rattle.pool.proofs.ask_all.Tie as tie
+
+returns : tie.Need-returns
+unfolding call.askAll
+returns c = sym (refused _ (c .before .refusal .ensures) _ _ (c .if1 .taken))
+
+returns-2 : tie.Need-returns-2
+unfolding call.askAll
+returns-2 c =
+    let known = c .before .before .before .before in
+    sym (served _ (c .before .before .before .refusal .ensures) _ _ (c .before .before .if1 .left)
+    (λ s S B. when-no _ _ _
+    (sym (c .before .all-held .ensures
+    ∙ all-held-serves s _ S (known .before .before .args .offsets .now) (λ i. omega (arith, known .shared-slice-known2 .given i)))
+    ∙ not-true _ (c .if2 .taken))))
+
+returns-3 : tie.Need-returns-3
+unfolding call.askAll
+returns-3 c =
+    let known = c .before .before .before .before in
+    sym (served _ (c .before .before .before .refusal .ensures) _ _ (c .before .before .if1 .left)
+    (λ s S B. when-yes _ _ _
+    (sym (c .before .all-held .ensures
+    ∙ all-held-serves s _ S (known .before .before .args .offsets .now) (λ i. omega (arith, known .shared-slice-known2 .given i)))
+    ∙ not-false _ (c .if2 .left))))
+
+pub ask-all-spec : {M : Type 1} → statement M
+ask-all-spec =
+    tie.close
+    (tie.spec
+    (λ c κs. search needs)
+    returns
+    (λ c κs. search needs)
+    returns-2
+    (λ c. omega (arith, served-allowed _ (c .before .before .before .refusal .ensures) (c .before .before .if1 .left)))
+    returns-3)
