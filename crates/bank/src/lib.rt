@@ -52,9 +52,9 @@ pub fn clear(pool: &mut [u8], bank: &mut [u32; 32], piston: u32) -> Answer
         return Answer::Refused(why);
     }
     let at = piston as usize;
-    let old = bank[at];
+    let offset = bank[at];
     bank[at] = 0;
-    release(pool, old);
+    release(pool, offset);
     Answer::Done(pool.len() as u32)
 }
 

@@ -8,7 +8,6 @@ mod pistons;
 pub use pistons::bank_clear;
 pub use pistons::bank_recall;
 pub use pistons::bank_set;
-
 ghost use mathlib.Core.Path.{_≡_};
 ghost use Rattle.pool.specs.Calls as call;
 ghost use Rattle.board.specs.Heard as board;

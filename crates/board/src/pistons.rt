@@ -7,7 +7,13 @@ use crate::halves;
 
 // Sets a piston; answers the pool's length.
 #[no_mangle]
-pub extern "C" fn bank_set(pool: &mut [u8], bank: &mut [u32; 32], piston: u32, kind: u8, body: &[u8]) -> u64
+pub extern "C" fn bank_set(
+    pool: &mut [u8],
+    bank: &mut [u32; 32],
+    piston: u32,
+    kind: u8,
+    body: &[u8],
+) -> u64
     ensures { λ r. ⌜ leavesBoth (call.set (now (pool .entry)) (now (bank .entry)) piston kind (now (body .entry))) ≡ leftBoth (halves r) (now (pool .exit)) (now (bank .exit)) ⌝ }
 {
     halves::of(bank::set(pool, bank, piston, kind, body))
