@@ -147,7 +147,7 @@ fn dump(pool: &[u8]) -> bool {
 }
 
 // A command on the pool.
-fn on_pool(pool: &mut [u8], body: &mut [u8], letter: u8) -> Outcome {
+fn on_pool(pool: &mut [u8], body: &mut [u8], bank: &mut [u32; 32], letter: u8) -> Outcome {
     match letter {
         b'L' => ended(output::line(b'L', pool::lay_out(pool))),
         b'N' => ended(output::line(b'N', pool::inspect(pool))),
@@ -161,6 +161,7 @@ fn on_pool(pool: &mut [u8], body: &mut [u8], letter: u8) -> Outcome {
             };
             ended(with_number(pool, letter, v))
         }
+        b'B' | b'K' | b'Q' | b'R' | b'V' => crate::pistons::step(pool, bank, letter),
         _ => Outcome::Unreadable,
     }
 }
@@ -178,10 +179,5 @@ pub fn step(
     if buffer.len() < n {
         return Next::Unreadable;
     }
-    match letter {
-        b'B' | b'K' | b'Q' | b'R' | b'V' => {
-            goes_on(n, crate::pistons::step(&mut buffer[..n], bank, letter))
-        }
-        _ => goes_on(n, on_pool(&mut buffer[..n], body, letter)),
-    }
+    goes_on(n, on_pool(&mut buffer[..n], body, bank, letter))
 }

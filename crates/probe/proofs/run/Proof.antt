@@ -7,10 +7,10 @@ use Rattle.probe.proofs.run.Statement.{statement}
 use Rattle.probe.proofs.run.Tie as tie
 
 abbrev Inv-loop : tie.InvT-loop
-Inv-loop buffer₀ body₀ n₀ left₀ buffer body n left = (length buffer ≡ length buffer₀) × (length body ≡ length body₀) × (left ≤ 18446744073709551615)
+Inv-loop buffer₀ body₀ bank₀ n₀ left₀ buffer body bank n left = (length buffer ≡ length buffer₀) × (length body ≡ length body₀) × (left ≤ 18446744073709551615)
 
 abbrev μ-loop : tie.MeasureT-loop
-μ-loop buffer₀ body₀ n₀ left₀ buffer body n left = left
+μ-loop buffer₀ body₀ bank₀ n₀ left₀ buffer body bank n left = left
 
 pub run-spec : {M : Type 1} → statement M
 run-spec =
