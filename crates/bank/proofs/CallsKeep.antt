@@ -7,20 +7,21 @@ use mathlib.Core.Path.{_≡_, refl, ap, sym, subst, _∙_}
 use Prim.Native.Nat.{ℕ, zero, suc, _<_, _≤_}
 use native.Mathlib.Omega.{arith}
 use lib.ListN.{getD, length, set as put}
-use Rattle.words.specs.Choice.{by<, by=, if=, if=-no, if=-yes, when, when-no, when-yes}
+use Rattle.words.specs.Choice.{by<, if=, if=-no, if=-yes}
 use Rattle.words.specs.Words.{Bytes}
 use Rattle.paper.specs.Answers.{number, no-room}
 use Rattle.paper.specs.declared.Answer.{Answer}
 use Rattle.paper.specs.declared.Answer.the-variants.{Done, Refused}
 use Rattle.pool.proofs.Granted.{refused-for-room}
 use Rattle.pool.specs.Calls.{take}
-use Rattle.bank.specs.Calls.{After, after, clear, no-piston, no-record, orElse, recall, refusal, released, set, store, stored}
+use Rattle.bank.specs.Calls.{After, clear, no-piston, no-record, recall, refusal, released, set, store, stored}
 use Rattle.bank.specs.declared.recalling.Place.{Place}
 use Rattle.bank.specs.Records.{isRecord}
 use Rattle.bank.specs.Run.{Call, Made, accepted, answered, bankAfter, clears, poolAfter, recalls, sets}
 use Rattle.bank.proofs.Banks.{Bank, bank-changes, bank-names, bank-shows}
 use Rattle.bank.proofs.Banks as banks
-use Rattle.bank.proofs.Refusals.{else-first, else-next, none-refused, past-refused}
+use Rattle.bank.proofs.Outcomes.{clear-done, clear-refused, set-no-record, set-refused, set-stores}
+use Rattle.bank.proofs.Refusals.{none-refused, past-refused}
 use Rattle.bank.proofs.Stored.{released-accepted, released-stays, stored-keeps}
 
 -- one of the answers that a call may have
@@ -43,6 +44,9 @@ module _ (bs bank : List ℕ) (old new : ℕ → List ℕ) where
 abbrev KeptBy : After → (old new : ℕ → List ℕ) → Type 0
 KeptBy a old new = Kept (a .pool) (a .bank) (number (a .answer)) old new
 
+left : {old new : ℕ → List ℕ} {a b : After} → a ≡ b → KeptBy b old new → KeptBy a old new
+left {old} {new} e k = subst (λ (x : After). KeptBy x old new) (sym e) k
+
 module _ (bs bank : List ℕ) (shows : ℕ → List ℕ) (B : Bank bs bank shows) where
   -- ---- what is asked first: 10, or nothing
 
@@ -58,24 +62,20 @@ module _ (bs bank : List ℕ) (shows : ℕ → List ℕ) (B : Bank bs bank shows
         by< p 32 (λ l. inl (l, none-refused bs bank (B .accepted) (bank-names bs bank shows B) p l))
         (λ l. inr (past-refused bs bank (B .accepted) (bank-names bs bank shows B) p l))
 
-    -- a call that is refused leaves pool and bank
-    refused-by : (k : ℕ) → k ≢ 0 → FairNumber k → (a : After) → a ≡ after (Refused k) bs bank → (new : ℕ → List ℕ) → KeptBy a shows new
-    refused-by k n f a e new = subst (λ (x : After). KeptBy x shows new) (sym e) (refused-kept bs bank shows new k n f B)
-
     -- ---- clear
 
     pub clear-keeps : KeptBy (clear bs bank p) shows (λ i. if= p i [] (shows i))
-    unfolding clear
     clear-keeps = go first-asked
       where
         go : First → KeptBy (clear bs bank p) shows (λ i. if= p i [] (shows i))
         go (inl l) =
-            subst (λ (x : After). KeptBy x shows (λ i. if= p i [] (shows i))) (sym (if=-yes why 0 _ _ (l .1)))
-            (accepted-kept (released bs (getD bank p 0)) (put bank p 0) shows (λ i. if= p i [] (shows i)) 0 refl
-            (bank-changes bs bank shows B (released bs (getD bank p 0)) (released-accepted bs (B .accepted) (getD bank p 0)) p (l .0) 0 [] (inl (refl, refl))
-            (λ i n m. released-stays bs (B .accepted) (getD bank p 0) (getD bank i 0) (λ k same. n (B .apart i p m same)))
+            let old = getD bank p 0 in
+            left (clear-done bs bank p why refl (l .1) (released bs old) refl)
+            (accepted-kept (released bs old) (put bank p 0) shows (λ i. if= p i [] (shows i)) 0 refl
+            (bank-changes bs bank shows B (released bs old) (released-accepted bs (B .accepted) old) p (l .0) 0 [] (inl (refl, refl))
+            (λ i n m. released-stays bs (B .accepted) old (getD bank i 0) (λ k same. n (B .apart i p m same)))
             (λ i n m. m)))
-        go (inr e) = refused-by no-piston (λ z. omega arith) (inr (inr (inl refl))) _ (if=-no why 0 _ _ (λ z. omega arith) ∙ ap (λ (k : ℕ). after (Refused k) bs bank) e) _
+        go (inr e) = left (clear-refused bs bank p why refl (λ z. omega arith)) (refused-kept bs bank shows _ why (λ z. omega arith) (inr (inr (inl e))) B)
 
     -- ---- set
 
@@ -100,21 +100,16 @@ module _ (bs bank : List ℕ) (shows : ℕ → List ℕ) (B : Bank bs bank shows
               refused-kept bs bank shows shown-then k (λ z. omega arith) (inr (inl r)) B
 
       pub set-keeps : KeptBy (set bs bank p kind body) shows shown-then
-      unfolding set
       set-keeps = go first-asked (isRecord kind body) refl
         where
           go : First → (b : Bool) → isRecord kind body ≡ b → KeptBy (set bs bank p kind body) shows shown-then
           go (inr e) b is =
-              let k : orElse why (when (isRecord kind body) 0 no-record) ≡ no-piston = else-first why _ (omega arith) ∙ e in
-              refused-by no-piston (λ z. omega arith) (inr (inr (inl refl))) _
-              (if=-no _ 0 _ _ (λ z. omega arith) ∙ ap (λ (j : ℕ). after (Refused j) bs bank) k) _
+              left (set-refused bs bank p why refl kind body (λ z. omega arith))
+              (refused-kept bs bank shows shown-then why (λ z. omega arith) (inr (inr (inl e))) B)
           go (inl l) false is =
-              let k : orElse why (when (isRecord kind body) 0 no-record) ≡ no-record = else-next why _ (l .1) ∙ when-no (isRecord kind body) _ _ is in
-              refused-by no-record (λ z. omega arith) (inr (inr (inr refl))) _
-              (if=-no _ 0 _ _ (λ z. omega arith) ∙ ap (λ (j : ℕ). after (Refused j) bs bank) k) _
-          go (inl l) true is =
-              let k : orElse why (when (isRecord kind body) 0 no-record) ≡ 0 = else-next why _ (l .1) ∙ when-yes (isRecord kind body) _ _ is in
-              subst (λ (x : After). KeptBy x shows shown-then) (sym (if=-yes _ 0 _ _ k)) (store-keeps (l .0) is)
+              left (set-no-record bs bank p why refl kind body (l .1) is)
+              (refused-kept bs bank shows shown-then no-record (λ z. omega arith) (inr (inr (inr refl))) B)
+          go (inl l) true is = left (set-stores bs bank p why refl kind body (l .1) is) (store-keeps (l .0) is)
 
     -- ---- recall
 

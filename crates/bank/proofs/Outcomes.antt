@@ -91,7 +91,7 @@ module _ (bs bank : List ℕ) (piston : ℕ) (why : ℕ) (e : why ≡ refusal bs
         if=-no _ 0 _ _ (λ y. omega arith) ∙ ap (λ (j : ℕ). after (Refused j) bs bank) k
 
     module _ (z : why ≡ 0) (is : isRecord kind body ≡ true) where
-      set-stores : set bs bank piston kind body ≡ store bs bank piston (kind ∷ body)
+      pub set-stores : set bs bank piston kind body ≡ store bs bank piston (kind ∷ body)
       unfolding set
       set-stores =
           if=-yes _ 0 _ _ (else-next (refusal bs bank piston) (when (isRecord kind body) 0 no-record) (sym e ∙ z) ∙ when-yes _ 0 no-record is)
