@@ -1,8 +1,10 @@
-"""Holds what the drawing finds against probe: on damaged images it names a fault exactly where probe refuses the pool. And looks that
-no link runs through a row of blocks, where the words are.
+"""Holds what the drawing finds against probe: on damaged images it names a fault exactly where probe refuses the pool, and on random
+banks exactly where probe refuses a recall. And looks that no link runs through a row of blocks, where the words are, and that with
+pistons no words stand on others.
 
 The images are those of the example tapes, each damaged many times at a place that a fixed seed chooses; all go through one probe run.
-Sound ones are also counted: the seven figures are those of the blocks that are drawn. The last line is `N passed, M failed`.
+Sound ones are also counted: the seven figures are those of the blocks that are drawn. The banks are given to sound pools, some of whose
+payloads begin as records do, and to a few damaged ones. The last line is `N passed, M failed`.
 """
 
 import os
@@ -14,11 +16,14 @@ HERE = os.path.dirname(os.path.abspath(__file__))
 sys.path.insert(0, os.path.join(HERE, "..", "..", "tools", "drawing"))
 
 import main  # noqa: E402
+from bank import PISTONS, REFUSED, Bank  # noqa: E402
+from pistons import RADIUS, BankPicture  # noqa: E402
 from pool import Pool  # noqa: E402
-from svg import HEIGHT, picture  # noqa: E402
+from svg import HEIGHT, Picture, width_of  # noqa: E402
 
 TAPES = ["maps/bins", "tapes/worked", "tapes/scattering", "tapes/joins", "tapes/small"]
 TURNS = 80
+BANKS = 150
 WORDS = [0, 1, 2, 3, 72, 96, 168, 2**31, 2**32 - 1]
 
 
@@ -66,7 +71,7 @@ def points(path):
 
 def crosses(drawn):
     """The links that enter a row; its left end, and how high it is, are those of its blocks."""
-    rows = {float(y) for y in re.findall(r'<path class="(?:held|large|small|remainder|word|false|unread)[^"]*" d="M[\d.]+ ([\d.]+)H', drawn)}
+    rows = {float(y) for y in re.findall(r'<path class="(?:held|record|large|small|remainder|word|false|unread)[^"]*" d="M[\d.]+ ([\d.]+)H', drawn)}
     right = max(float(x) for x in re.findall(r'd="M[\d.]+ [\d.]+H([\d.]+)', drawn))
     for path in re.findall(r'<path class="link link-[a-z]+" d="(M[^"]*)"', drawn):
         if "h" in path:
@@ -79,7 +84,7 @@ def crosses(drawn):
 
 def agrees(image, inspected, figures):
     pool = Pool(image)
-    drawn = picture(pool, "image", 0 if not pool.faults else 2, [0] * 7)  # it can be drawn whatever it is
+    drawn = Picture(pool).draw("image", 0 if not pool.faults else 2, [0] * 7)  # it can be drawn whatever it is
     if any(crosses(drawn)):
         return False
     if inspected.split()[1] == "0":
@@ -90,7 +95,11 @@ def agrees(image, inspected, figures):
 def run():
     chance = random.Random(1)
     images = [main.run_tape(os.path.join(HERE, "..", name + ".tape")) for name in TAPES]
-    images += [damaged(image, chance) for image in images for _ in range(TURNS)]
+    return all([run_pools(images, chance), run_banks(images, chance)])
+
+
+def run_pools(images, chance):
+    images = images + [damaged(image, chance) for image in images for _ in range(TURNS)]
     commands = [command for image in images for command in (main.image_command(image), b"N", b"S")]
     lines = main.ask_probe(commands)
     good = sound = 0
@@ -104,6 +113,93 @@ def run():
     both = 50 < sound < len(images) - 50
     print(f"{sound} sound images and {len(images) - sound} others: {good + both} passed, {len(images) - good + (not both)} failed")
     return good == len(images) and both
+
+
+# Banks
+
+
+def with_kinds(image, chance):
+    """Payloads that begin with a kind, or nearly; no byte of a payload is governed."""
+    data = bytearray(image)
+    for block in Pool(image).blocks:
+        if block.kind == "held" and chance.random() < 0.9:
+            data[block.start + 4] = chance.choice([1, 1, 1, 2, 2, 3, 3, 4, 0])
+    return bytes(data)
+
+
+def random_bank(image, chance):
+    """Half of them name held payloads, each once; in the others some numbers are anything, and some stand twice."""
+    blocks = Pool(image).blocks
+    held = [block.start + 4 for block in blocks if block.kind == "held"]
+    payloads = [block.start + 4 for block in blocks] or [0]
+    numbers = (chance.sample(held, chance.randrange(min(len(held), PISTONS) + 1)) + [0] * PISTONS)[:PISTONS]
+    if chance.randrange(2):
+        for _ in range(chance.choice([1, 1, 2, 6, 40])):
+            ways = [chance.choice(payloads), chance.choice(numbers), chance.randrange(len(image)), 2**32 - 1]
+            numbers[chance.randrange(PISTONS)] = chance.choice(ways)
+    chance.shuffle(numbers)
+    return b"".join(number.to_bytes(4, "little") for number in numbers)
+
+
+SIZES = {"name": 20, "verdict": 15, "value": 19, "tiny": 8.5, "offset": 10.5, "kind": 8, "more": 9.5}
+
+
+def boxes(drawn):
+    """Where words and buttons stand, as (top, bottom, left, right); a button's own number is within it."""
+    for x, y in re.findall(r'<circle [^>]*cx="([\d.]+)" cy="([\d.]+)"', drawn):
+        yield float(y) - RADIUS, float(y) + RADIUS, float(x) - RADIUS, float(x) + RADIUS
+    for x, y, style, anchor, words in re.findall(r'<text x="([\d.]+)" y="([\d.]+)"(?: class="([^"]*)")?(?: text-anchor="(\w+)")?>([^<]*)<', drawn):
+        if anchor != "middle":
+            size = next((SIZES[word] for word in style.split() if word in SIZES), 12)
+            width = 0.9 * width_of(words, size)  # that is rather too wide
+            left = float(x) - (width if anchor == "end" else 0)
+            yield float(y) - 0.7 * size, float(y), left, left + width
+
+
+def overlaps(drawn):
+    """Whether any two of them share a place."""
+    placed = sorted(boxes(drawn))
+    for i, (_, bottom, left, right) in enumerate(placed):
+        for other_top, _, other_left, other_right in placed[i + 1:]:
+            if other_top >= bottom:
+                break
+            if left < other_right and other_left < right:
+                return True
+    return False
+
+
+def bank_agrees(pool, bank, recalls):
+    numbers = [number for number, _ in recalls]
+    drawn = BankPicture(bank, "bank", numbers).draw("image", 0 if not pool.faults else 2, [0] * 7)
+    if any(crosses(drawn)) or overlaps(drawn):
+        return False
+    if pool.faults:
+        return all(recall == (2, b"") for recall in recalls)
+    return recalls == [bank.answer(piston) for piston in range(PISTONS)] and bool(bank.faults) == (REFUSED in numbers)
+
+
+def run_banks(images, chance):
+    images = [with_kinds(chance.choice(images), chance) for _ in range(BANKS)]
+    images += [damaged(image, chance) for image in images[:BANKS // 10]]
+    banks = [random_bank(image, chance) for image in images]
+    commands = [[main.image_command(image)] + main.recall_commands(bank) for image, bank in zip(images, banks)]
+    lines = main.ask_probe([command for some in commands for command in some])
+    step, good, met = len(commands[0]), 0, {"recalled": 0, "some": 0, "refused": 0, "not sound": 0}
+    for i, image in enumerate(images):
+        pool = Pool(image)
+        bank = Bank(pool, banks[i])
+        recalls = [main.recalled(line) for line in lines[i * step + 2:(i + 1) * step]]
+        refused = sum(number == REFUSED for number, _ in recalls)
+        met["not sound" if pool.faults else "recalled" if refused == 0 else "refused" if refused == PISTONS else "some"] += 1
+        if bank_agrees(pool, bank, recalls):
+            good += 1
+        else:
+            print(f"failed: bank {i} {bank.numbers}: probe says {recalls}, the drawing {bank.faults}")
+    # as above: there are some of each
+    all_met = min(met.values()) >= 4
+    print(f"{met['recalled']} banks whose pistons are recalled, {met['some']} with a record that does not read, {met['refused']} that are refused "
+          f"and {met['not sound']} with an unsound pool: {good + all_met} passed, {len(images) - good + (not all_met)} failed")
+    return good == len(images) and all_met
 
 
 if __name__ == "__main__":

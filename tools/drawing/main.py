@@ -5,11 +5,13 @@ import stat
 import subprocess
 import sys
 
+from bank import BYTES, PISTONS, REFUSED, Bank
+from pistons import BankPicture
 from pool import Pool
-from svg import picture
+from svg import Picture
 
 TOOLS = os.path.dirname(os.path.dirname(os.path.abspath(__file__)))
-USAGE = "usage: tools/map IMAGE [OUT.svg] | tools/map --tape TAPE [OUT.svg]"
+USAGE = "usage: tools/map [--bank BANK] IMAGE [OUT.svg] | tools/map [--bank BANK] --tape TAPE [OUT.svg]"
 GREATEST_POOL = 65536
 GREATEST_TAPE = 32768
 NO_POOL, NOT_DONE = 1, 2
@@ -28,13 +30,25 @@ class Stop(Exception):
 # The image
 
 
-def read_image(name):
-    """The file's bytes; one byte more than a pool may have is enough to refuse it."""
+def read_file(name, most):
+    """The file's bytes; one byte more than it may have is enough to refuse it."""
     try:
         with open(name, "rb") as file:
-            data = file.read(GREATEST_POOL + 1)
+            return file.read(most + 1)
     except OSError as error:
         raise Stop(NOT_DONE, f"{name} cannot be read: {error.strerror}")
+
+
+def read_bank(name):
+    data = read_file(name, BYTES)
+    if len(data) != BYTES:
+        has = f"{len(data)}" if len(data) < BYTES else f"more than {BYTES}"
+        raise Stop(NO_POOL, f"{name} has {has} bytes, and a bank has {BYTES}")
+    return data
+
+
+def read_image(name):
+    data = read_file(name, GREATEST_POOL)
     if not data:
         raise Stop(NO_POOL, f"{name} is empty")
     if len(data) > GREATEST_POOL:
@@ -91,10 +105,21 @@ def ask_probe(commands):
     return lines
 
 
-def verdict(data):
-    """Inspection's answer, and the seven figures where it is 0."""
-    _, inspected, figures = ask_probe([image_command(data), b"N", b"S"])
-    return int(inspected.split()[1]), [int(word) for word in figures.split()[2:]]
+def recall_commands(bank):
+    """The bank, and the recall of each piston."""
+    return [b"B" + bank] + [b"R" + piston.to_bytes(4, "little") for piston in range(PISTONS)]
+
+
+def recalled(line):
+    """A recall's number, and the record's bytes."""
+    _, number, _, record = line.split()
+    return int(number), b"" if record == "-" else bytes.fromhex(record)
+
+
+def verdict(data, bank):
+    """Inspection's answer, the seven figures where it is 0, and the recall of each piston where there is a bank."""
+    _, inspected, figures, *rest = ask_probe([image_command(data), b"N", b"S"] + (recall_commands(bank) if bank else []))
+    return int(inspected.split()[1]), [int(word) for word in figures.split()[2:]], [recalled(line) for line in rest[1:]]
 
 
 # The picture
@@ -137,16 +162,8 @@ def shown(name):
     return "".join(c if c.isprintable() else "?" for c in text)
 
 
-def draw(name, is_tape, out):
-    if out not in STANDARD_OUTPUT and os.path.exists(out) and os.path.exists(name) and os.path.samefile(out, name):
-        raise Stop(NOT_DONE, f"{out} is the file that is read, and would be lost")
-    data = run_tape(name) if is_tape else read_image(name)
-    number, figures = verdict(data)
-    if number == 1:
-        raise Stop(NO_POOL, f"{name} has {len(data)} bytes, and probe refuses it with 1: no multiple of 8 from 176 to 65536")
-    pool = Pool(data)
-    title = f"{shown(name)}, after its last record" if is_tape else shown(name)
-    put(out, picture(pool, title, number, figures))
+def judge(pool, number):
+    """What is said of a pool, and what ends the run, after its picture is made."""
     if number != 0:
         where = f"the first thing that does not fit is at {pool.faults[0].at}" if pool.faults else "the drawing shows no reason"
         print(f"tools/map: probe refuses the pool with {number}: it is not sound; {where}", file=sys.stderr)
@@ -154,12 +171,61 @@ def draw(name, is_tape, out):
         raise Stop(NOT_DONE, f"probe accepts the pool, and the drawing shows a fault at {pool.faults[0].at}: one of them is wrong")
 
 
+def judge_bank(bank, recalls):
+    """The same for a bank on a sound pool."""
+    for piston, (number, record) in enumerate(recalls):
+        wanted, wanted_record = bank.answer(piston)
+        if (number, record) != (wanted, wanted_record):
+            raise Stop(NOT_DONE, f"probe recalls piston {piston} with {number} and {len(record)} bytes, and the drawing shows {wanted} and "
+                                 f"{len(wanted_record)}: one of them is wrong")
+    if bank.faults:
+        what = "the bank" if bank.refused else f"the recall of piston {bank.faults[0].pistons[0]}"
+        print(f"tools/map: probe refuses {what} with {REFUSED}: {bank.faults[0].text}", file=sys.stderr)
+
+
+def keep(out, names):
+    """No file that is read is written over."""
+    for name in names:
+        if out not in STANDARD_OUTPUT and os.path.exists(out) and os.path.exists(name) and os.path.samefile(out, name):
+            raise Stop(NOT_DONE, f"{out} is the file that is read, and would be lost")
+
+
+def draw(name, is_tape, bank_name, out):
+    keep(out, [name] + ([bank_name] if bank_name else []))
+    bank_data = read_bank(bank_name) if bank_name else None
+    data = run_tape(name) if is_tape else read_image(name)
+    number, figures, recalls = verdict(data, bank_data)
+    if number == 1:
+        raise Stop(NO_POOL, f"{name} has {len(data)} bytes, and probe refuses it with 1: no multiple of 8 from 176 to 65536")
+    pool = Pool(data)
+    bank = Bank(pool, bank_data) if bank_name else None
+    title = f"{shown(name)}, after its last record" if is_tape else shown(name)
+    sheet = BankPicture(bank, shown(bank_name), [answer for answer, _ in recalls]) if bank else Picture(pool)
+    put(out, sheet.draw(title, number, figures))
+    judge(pool, number)
+    if bank and number == 0:
+        judge_bank(bank, recalls)
+
+
+def take_bank(words):
+    """The word behind --bank, and the others."""
+    if "--bank" not in words[:-1]:
+        return None, words
+    at = words.index("--bank")
+    return words[at + 1], words[:at] + words[at + 2:]
+
+
 def main(words):
+    bank, words = take_bank(words)
     is_tape = words[:1] == ["--tape"]
     words = words[1:] if is_tape else words
-    if not 1 <= len(words) <= 2 or "" in words or any(word.startswith("-") and word != "-" for word in words):
+    names = words + ([bank] if bank is not None else [])
+    if not 1 <= len(words) <= 2 or "" in names or any(word.startswith("-") and word != "-" for word in names):
         raise Stop(NOT_DONE, USAGE)
-    draw("/dev/stdin" if words[0] == "-" else words[0], is_tape, words[1] if len(words) == 2 else None)
+    if bank == words[0] == "-":
+        raise Stop(NOT_DONE, "standard input cannot be both the pool and the bank")
+    name, bank = ("/dev/stdin" if word == "-" else word for word in (words[0], bank))
+    draw(name, is_tape, bank, words[1] if len(words) == 2 else None)
 
 
 if __name__ == "__main__":

@@ -22,6 +22,7 @@ MOST_FAULTS, MOST_BINS, MOST_STARTS = 10, 10, 4
 FIGURES = ["held blocks", "held bytes", "free small", "free large", "remainder", "free word", "largest grant"]
 WORDS = {"held": "held", "small": "free", "large": "free", "remainder": "remainder"}
 TITLES = {"held": "held", "small": "free small block", "large": "free large block", "remainder": "remainder, free"}
+DARK = ("held", "record")  # words on these are white
 HEADER = {FREE_WORD: "free", FALSE_WORD: "false", START: "R", END: "E"}
 HEADER.update({SMALL_BINS + size: str(size) for size in SMALL_SIZES})
 HEADER[FALSE_BLOCK + CHAIN] = "chain"
@@ -124,10 +125,15 @@ class Rows:
 
 
 class Picture:
+    style = STYLE
+    swatches = {"held": "held", "large": "free large", "small": "free small", "remainder": "remainder", "word": "header word",
+                "false": "false block"}
+
     def __init__(self, pool):
         self.pool = pool
         self.below, self.links, self.words = [], [], []  # the three layers
         self.routed = 0  # links that went around
+        self.taken = {}  # for the y of a row, from where to where words stand in it
         self.y = 0
 
     # Above the rows
@@ -138,7 +144,7 @@ class Picture:
             title = title[:-2] + "…"
         self.words.append(text(MARGIN, 46, title, "name"))
         self.words.append(text(WIDTH - MARGIN, 46, f"● {verdict}", f"{style} verdict", "end"))
-        self.words.append(text(MARGIN, 68, f"{self.pool.n} bytes", "quiet"))
+        self.words.append(text(MARGIN, 68, self.subtitle(), "quiet"))
         step = (WIDTH - 2 * MARGIN) / len(FIGURES)
         for i, name in enumerate(FIGURES):
             value = str(figures[i]) if number == 0 else "–"
@@ -146,6 +152,9 @@ class Picture:
             self.words.append(text(MARGIN + i * step, 130, value, "value"))
         self.below.append(f'<path class="rule" d="M{MARGIN} 84.5H{WIDTH - MARGIN}M{MARGIN} 146.5H{WIDTH - MARGIN}"/>')
         self.y = 146
+
+    def subtitle(self):
+        return f"{self.pool.n} bytes"
 
     def faults(self):
         """The causes first, the very first one strong; what only follows from them is set apart."""
@@ -167,17 +176,21 @@ class Picture:
         for i in range(self.scale.count):
             _, y = self.scale.place(i * self.scale.row)
             self.words.append(text(LEFT - 12, y + HEIGHT / 2 + 4, str(i * self.scale.row), "quiet", "end"))
-        bad = sorted(fault.at for fault in self.pool.faults if not fault.follows) + [self.pool.n]
+        bad = sorted(self.wrong()) + [self.pool.n]
         for start, end, style, title, labels in self.cells():
             wrong = bad[bisect_left(bad, start)] < end
             self.cell(self.scale.pieces(start, end), style + (" bad" if wrong else ""), title)
-            self.label(list(self.scale.pieces(start, end)), style, labels)
+            self.label(start, list(self.scale.pieces(start, end)), style, labels)
         if self.scale.header is not None:
             self.header_row(bad)
         for start, end in self.pool.gaps:
             self.cell(self.scale.pieces(start, end), "unread", f"{start} to {end}: not read")
         self.breaks()
         self.y = self.scale.top + (self.scale.count - 1) * PITCH + HEIGHT
+
+    def wrong(self):
+        """Addresses whose cells are red."""
+        return [fault.at for fault in self.pool.faults if not fault.follows]
 
     def header_words(self):
         """Each word as (its address, title, label); the last one is the chain's first link, in the false block."""
@@ -196,7 +209,7 @@ class Picture:
             piece = self.scale.header_piece(at)
             wrong = bad[bisect_left(bad, at)] < at + 8
             self.cell([piece], "word" + (" bad" if wrong else ""), title)
-            self.label([piece], "word", [words])
+            self.label(at, [piece], "word", [words])
         self.words.append(text(LEFT - 12, self.scale.header + HEIGHT / 2 + 4, "header", "quiet", "end"))
 
     def cells(self):
@@ -241,22 +254,30 @@ class Picture:
             shape += f"H{short(left)}" + (f"l6 {short(-middle)}z" if cut_left else "z")
         self.below.append(f'<path class="{style}" d="{shape}"><title>{escape(title)}</title></path>')
 
-    def label(self, pieces, style, tries):
+    def label(self, _start, pieces, style, tries, beside=0):
         """The first of some labels that fits, in the first piece that it fits; none where nothing does. Three lines are small and close,
-        and so are those of the header's words among the blocks."""
-        on = "on-held" if style == "held" else "on-light"
+        and so are those of the header's words among the blocks. `beside` is kept free behind it. Answers the piece and where the label
+        ends, None where there is none."""
+        on = "on-light" if style not in DARK else "on-held"
         for lines in tries:
             close = len(lines) == 3 or style == "word" and self.scale.header is None
             small, large, room = (8.5, 8.5, 2) if close else (10.5, 12, 7)
-            for x, width, y, cut_left, _ in pieces:
+            for piece in pieces:
+                x, width, y, cut_left, _ = piece
                 first = f"from {lines[0]}" if cut_left else lines[0]
                 pad = 12 if cut_left else room
-                if pad + max(width_of(first, small), *(width_of(line, large) for line in lines[1:])) <= width:
+                end = pad + max(width_of(first, small), *(width_of(line, large) for line in lines[1:]))
+                if end + beside <= width:
                     tops = (11, 22, 33) if len(lines) == 3 else (15, 30)
                     self.words.append(text(x + pad, y + tops[0], first, f"{on}-quiet {'tiny' if close else 'offset'}"))
                     for top, line in zip(tops[1:], lines[1:]):
                         self.words.append(text(x + pad, y + top, line, f"{on} tiny" if close else on))
-                    return
+                    self.take(y, x + pad, x + end)
+                    return piece, x + end
+        return None
+
+    def take(self, y, left, right):
+        self.taken.setdefault(y, []).append((left, right))
 
     def breaks(self):
         """A red line where a walk ends, and in what was not read behind it what stands there; the list above has the rest."""
@@ -272,6 +293,7 @@ class Picture:
                     self.links.append(f'<rect class="plate" x="{short(x + 8)}" y="{short(y + 9)}" '
                                       f'width="{short(width_of(words) + 14)}" height="20" rx="3"/>')
                     self.words.append(text(x + 14, y + 23.5, words, "red strong"))
+                    self.take(y, x + 8, x + 22 + width_of(words))
                     break
 
     # Links
@@ -369,8 +391,7 @@ class Picture:
         self.below.append(f'<path class="rule" d="M{MARGIN} {self.y + 21.5}H{WIDTH - MARGIN}"/>')
         self.y += 46
         x = MARGIN
-        for style, words in [("held", "held"), ("large", "free large"), ("small", "free small"), ("remainder", "remainder"),
-                             ("word", "header word"), ("false", "false block")]:
+        for style, words in self.swatches.items():
             self.below.append(f'<rect class="{style}" x="{short(x)}" y="{self.y - 10}" width="16" height="12"/>')
             x = self.key(x + 22, words)
         if self.pool.faults:
@@ -390,22 +411,20 @@ class Picture:
         self.words.append(text(x, self.y, words, "quiet"))
         return x + width_of(words, 12) + 24
 
+    def draw(self, title, number, figures):
+        """The whole SVG as text."""
+        self.head(title, number, figures)
+        self.faults()
+        self.rows()
+        self.arrows()
+        self.bins()
+        self.legend()
+        return self.whole(title)
+
     def whole(self, title):
         markers = "".join(MARKER.format(*pair) for pair in [("small", "#2f7d57"), ("chain", "#9a6b0f"), ("bad", "#c0262d")])
         height = round(self.y)
         return "\n".join([
             f'<svg xmlns="http://www.w3.org/2000/svg" viewBox="0 0 {WIDTH} {height}" width="{WIDTH}" height="{height}" role="img">',
-            f"<title>{escape(title)}</title>", f"<style>{STYLE}</style>", f"<defs>{markers}{HATCH}</defs>",
+            f"<title>{escape(title)}</title>", f"<style>{self.style}</style>", f"<defs>{markers}{HATCH}</defs>",
             f'<rect width="{WIDTH}" height="{height}" fill="#ffffff"/>', *self.below, *self.links, *self.words, "</svg>", ""])
-
-
-def picture(pool, title, number, figures):
-    """The whole SVG as text."""
-    sheet = Picture(pool)
-    sheet.head(title, number, figures)
-    sheet.faults()
-    sheet.rows()
-    sheet.arrows()
-    sheet.bins()
-    sheet.legend()
-    return sheet.whole(title)

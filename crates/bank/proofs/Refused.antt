@@ -1,16 +1,17 @@
 -- A refusal changes nothing, neither a byte of the pool nor a number of the bank, on every pool and every bank; a refused recall gives the empty
--- part at the pool's end.
+-- part at the pool's end. And a clear of an empty piston changes nothing either.
 use mathlib.Core.List.{List, _∷_}
 use mathlib.Core.Logic.{_≢_}
-use mathlib.Core.Path.{_≡_, refl, ap, sym, subst, _∙_}
+use mathlib.Core.Path.{_≡_, refl, ap, ap₂, sym, subst, _∙_}
 use Prim.Native.Nat.{ℕ}
-use lib.ListN.{getD, length}
+use lib.ListN.{getD, length, set as put}
+use lib.Seq.{set-getD}
 use Rattle.words.specs.Choice.{by=, if=-no, if=-yes, when}
 use Rattle.paper.specs.Answers.{number}
 use Rattle.paper.specs.declared.Answer.{Answer}
 use Rattle.paper.specs.declared.Answer.the-variants.{Done, Refused}
 use Rattle.pool.specs.Calls.{part, take}
-use Rattle.bank.specs.Calls.{After, clear, no-record, not-named, nothing, orElse, recall, recordAt, refusal, set, store, stored}
+use Rattle.bank.specs.Calls.{After, after, clear, no-record, not-named, nothing, orElse, recall, recordAt, refusal, released, set, store, stored}
 use Rattle.bank.specs.declared.recalling.Place.{Place}
 use Rattle.bank.specs.Records.{isRecord, recordIn}
 use Rattle.bank.specs.Run.{Call, answered, bankAfter, clears, poolAfter, recalls, sets}
@@ -60,3 +61,11 @@ module _ (bs bank : List ℕ) where
     where
       shown-as : {x y : Place} → x ≡ y → (y .number ≢ 0 → y ≡ nothing bs (y .number)) → x .number ≢ 0 → x ≡ nothing bs (x .number)
       shown-as {x} {y} e u = subst (λ (p : Place). p .number ≢ 0 → p ≡ nothing bs (p .number)) (sym e) u
+
+  -- "clear of one 0 and no byte changed"
+  pub clear-of-empty : (piston : ℕ) → refusal bs bank piston ≡ 0 → getD bank piston 0 ≡ 0 → clear bs bank piston ≡ after (Done (length bs)) bs bank
+  unfolding clear released
+  clear-of-empty piston z e =
+      if=-yes _ 0 _ _ z
+      ∙ ap₂ (λ (l b : List ℕ). after (Done (length bs)) l b) (if=-yes (getD bank piston 0) 0 _ _ e)
+      (ap (put bank piston) (sym e) ∙ set-getD bank piston 0)
