@@ -2,13 +2,12 @@
 -- within the pool.
 use mathlib.Core.List.{List}
 use mathlib.Core.Logic.{_≢_}
-use mathlib.Core.Path.{_≡_, refl, ap, sym, subst, _∙_}
+use mathlib.Core.Path.{_≡_, ap, sym, subst, _∙_}
 use Prim.Native.Nat.{ℕ, _+_, _-_, _≤_}
 use native.Mathlib.Omega.{arith}
 use lib.ListN.{getD, length}
 use Rattle.words.specs.Choice.{by=, if=, if=-no, if=-yes}
 use Rattle.words.specs.Words.{Bytes}
-use Rattle.paper.specs.declared.Answer.{Answer}
 use Rattle.paper.specs.declared.Answer.the-variants.{Done, Refused}
 use Rattle.pool.proofs.Holding.{held-there}
 use Rattle.pool.proofs.Named.{asked-names}

@@ -2,7 +2,7 @@
 -- that the bank does not name, and the pool's laws keep every other one.
 use mathlib.Core.List.{List}
 use mathlib.Core.Logic.{_≢_}
-use mathlib.Core.Path.{_≡_, refl, ap, ap₂, sym, subst, _∙_}
+use mathlib.Core.Path.{_≡_, ap, ap₂, sym, subst, _∙_}
 use Prim.Native.Nat.{ℕ, _+_, _≤_}
 use native.Mathlib.Omega.{arith}
 use lib.ListN.{getD, length}
@@ -14,11 +14,11 @@ use Rattle.paper.specs.declared.Answer.the-variants.{Done}
 use Rattle.pool.proofs.Accepting.{Accepted, give-back-accepted, give-back-long, take-accepted, take-long, write-accepted}
 use Rattle.pool.proofs.Holding.{Held, give-back-keeps-held, payload-inside, take-keeps-held, write-keeps-held}
 use Rattle.pool.proofs.Named.{Names, asked-accepted, asked-held, asked-names}
-use Rattle.pool.specs.Calls.{ask, askAll, part}
+use Rattle.pool.specs.Calls.{askAll, part}
 use Rattle.bank.specs.Calls.{not-named, nothing, recall, recordAt, refusal, shown}
 use Rattle.bank.specs.declared.recalling.Place.{Place}
 use Rattle.bank.specs.Records.{recordIn}
-use Rattle.bank.specs.Run.{Act, Behaved, Inside, acted, gives, takes, writes}
+use Rattle.bank.specs.Run.{Act, Behaved, acted, gives, takes, writes}
 use Rattle.bank.proofs.Banks.{Stays}
 use Rattle.bank.proofs.RecordLaws.{record-within}
 use Rattle.bank.proofs.Refusals.{by-piston}

@@ -8,7 +8,7 @@ use native.Mathlib.Omega.{arith}
 use borrow.Rule.Slice.PartMut.{mid-len, midOf, post-is, putMid}
 use lib.ListN.{drop, getD, length, set as put, take as firsts}
 use Rattle.words.proofs.Parts.{replaced-length}
-use Rattle.words.specs.Choice.{by=, if=, if=-no, if=-yes, when, when-no, when-yes}
+use Rattle.words.specs.Choice.{by=, if=-no, if=-yes, when, when-no, when-yes}
 use Rattle.words.specs.Parts.{replacedPart}
 use Rattle.words.specs.Words.{Bytes}
 use Rattle.paper.specs.Answers.{Out, out}

@@ -11,7 +11,7 @@ use Rattle.paper.specs.Answers.{number}
 use Rattle.paper.specs.declared.Answer.{Answer}
 use Rattle.paper.specs.declared.Answer.the-variants.{Done, Refused}
 use Rattle.pool.specs.Calls.{part, take}
-use Rattle.bank.specs.Calls.{After, after, clear, no-record, not-named, nothing, orElse, recall, recordAt, refusal, released, set, store, stored}
+use Rattle.bank.specs.Calls.{After, after, clear, no-record, nothing, orElse, recall, recordAt, refusal, released, set, store, stored}
 use Rattle.bank.specs.declared.recalling.Place.{Place}
 use Rattle.bank.specs.Records.{isRecord, recordIn}
 use Rattle.bank.specs.Run.{Call, answered, bankAfter, clears, poolAfter, recalls, sets}

@@ -1,28 +1,27 @@
 -- The run theorem: "After any run of set, clear and recall, from an empty bank on a fresh pool that only the bank uses, each piston shows its
 -- latest accepted setting." It holds beside well-behaved neighbours too. By induction on the steps: each keeps the bank.
 use mathlib.Core.List.{List, [], _∷_}
-use mathlib.Core.Logic.{_≢_, inl}
-use mathlib.Core.Path.{_≡_, refl, ap, sym, subst, _∙_}
-use Prim.Native.Nat.{ℕ, _<_}
+use mathlib.Core.Logic.{inl}
+use mathlib.Core.Path.{_≡_, refl}
+use Prim.Native.Nat.{ℕ}
 use lib.ListN.{getD, getD-replicate, length, length-replicate, replicate, List·getD-eq-default}
 use native.Mathlib.Omega.{arith}
-use Rattle.words.specs.Choice.{by<, if=}
+use Rattle.words.specs.Choice.{by<}
 use Rattle.words.specs.Words.{Bytes}
 use Rattle.paper.specs.Allowed.{Allowed}
 use Rattle.pool.proofs.Accepting.{Accepted, laid-out-accepted}
 use Rattle.pool.specs.Calls.{layOut}
-use Rattle.bank.specs.Calls.{recall, shown}
-use Rattle.bank.specs.Run.{Act, Behaves, Call, Fair, Line, Made, Ran, Step, accepted, acted, acts, answered, bankAfter, calls, empty, latest, poolAfter, run}
+use Rattle.bank.specs.Run.{AllMade, Behaves, Call, Fair, Ran, Shows, Step, acted, acts, alone, bankAfter, calls, empty, latest, poolAfter, run}
 use Rattle.bank.proofs.Banks.{Bank, bank-stays, recalls}
 use Rattle.bank.proofs.CallsKeep.{call-keeps}
 use Rattle.bank.proofs.Neighbours.{act-leaves}
 
 -- what a run has left, by what each piston showed before
-pub record Held-true (shows : ℕ → List ℕ) (r : Ran) : Type 0 where
+pub record RunKept (shows : ℕ → List ℕ) (r : Ran) : Type 0 where
   pub bank-is : Bank (r .pool) (r .bank) (λ i. latest i (shows i) (r .lines))
   pub fair : Fair (r .lines)
 
-pub run-keeps : (bs bank : List ℕ) (shows : ℕ → List ℕ) → Bank bs bank shows → (xs : List Step) → Behaves bs bank xs → Held-true shows (run bs bank xs)
+pub run-keeps : (bs bank : List ℕ) (shows : ℕ → List ℕ) → Bank bs bank shows → (xs : List Step) → Behaves bs bank xs → RunKept shows (run bs bank xs)
 unfolding run Behaves latest
 run-keeps bs bank shows B [] b = record { bank-is = B; fair = tt }
 run-keeps bs bank shows B (calls c ∷ xs) b =
@@ -49,12 +48,6 @@ empty-bank bs A =
     zero-at i =
         by< i 32 (λ l. getD-replicate 32 i 0 0 l) (λ l. List·getD-eq-default (replicate 32 0) 0 {n = i} (omega (arith, length-replicate {A = ℕ} 32 0)))
 
--- after the run, each piston's recall answers 0 and shows what the list of calls and answers says; and no answer was 1, 2 or 12
-pub record Shows (r : Ran) : Type 0 where
-  pub accepted-recall : (piston : ℕ) → piston < 32 → recall (r .pool) (r .bank) piston .number ≡ 0
-  pub latest-setting : (piston : ℕ) → piston < 32 → shown (r .pool) (recall (r .pool) (r .bank) piston) ≡ latest piston [] (r .lines)
-  pub fair-answers : Fair (r .lines)
-
 pub run-shows : (bs : List ℕ) → Accepted bs → (xs : List Step) → Behaves bs empty xs → Shows (run bs empty xs)
 run-shows bs A xs b =
     let k = run-keeps bs empty (λ i. []) (empty-bank bs A) xs b in
@@ -65,14 +58,6 @@ run-shows bs A xs b =
     }
 
 -- ---- "on a fresh pool that only the bank uses"
-
-abbrev pub alone : List Call → List Step
-alone [] = []
-alone (c ∷ cs) = calls c ∷ alone cs
-
-abbrev pub AllMade : List Call → Type 0
-AllMade [] = Unit {0}
-AllMade (c ∷ cs) = Made c × AllMade cs
 
 alone-behaves : (bs bank : List ℕ) (cs : List Call) → AllMade cs → Behaves bs bank (alone cs)
 unfolding Behaves

@@ -2,11 +2,11 @@
 -- By the pool's laws, step by step: take, write, give back.
 use mathlib.Core.Bool.{true}
 use mathlib.Core.List.{List, _∷_}
-use mathlib.Core.Logic.{_≢_, inl, inr}
-use mathlib.Core.Path.{_≡_, refl, ap, sym, subst, _∙_}
+use mathlib.Core.Logic.{_≢_, inr}
+use mathlib.Core.Path.{_≡_, refl, sym, subst}
 use Prim.Native.Nat.{ℕ, suc, _+_, _-_, _<_, _≤_}
 use native.Mathlib.Omega.{arith}
-use lib.ListN.{drop, getD, length, length-append, set as put, take as firsts}
+use lib.ListN.{drop, getD, length, set as put}
 use lib.Seq.{take-append-seam}
 use Rattle.words.proofs.Parts.{replaced-length}
 use Rattle.words.specs.Choice.{by=, if=, if=-no, if=-yes}
@@ -16,10 +16,10 @@ use Rattle.paper.specs.declared.Answer.the-variants.{Done}
 use Rattle.pool.proofs.Accepting.{Accepted, give-back-accepted, take-accepted, write-accepted}
 use Rattle.pool.proofs.Granted.{granted-held, granted-new}
 use Rattle.pool.proofs.Holding.{Held, give-back-keeps-held, held-there, take-keeps-held, write-held, write-keeps-held}
-use Rattle.pool.specs.Calls.{giveBack, take}
+use Rattle.pool.specs.Calls.{take}
 use Rattle.bank.specs.Calls.{released}
-use Rattle.bank.specs.Records.{isRecord, recordIn}
-use Rattle.bank.proofs.Banks.{Bank, Piston, Setting, Stays, bank-changes, bank-names, setting-stays}
+use Rattle.bank.specs.Records.{isRecord}
+use Rattle.bank.proofs.Banks.{Bank, Setting, Stays, bank-changes, bank-names, setting-stays}
 use Rattle.bank.proofs.RecordLaws.{record-reads}
 
 -- ---- the old block is given back

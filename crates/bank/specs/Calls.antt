@@ -1,11 +1,11 @@
--- The calls of the piston bank: what each answers, and every byte of the pool and every number of the bank afterwards. They are said in the words
+-- The calls of the piston bank (request 2026-03): what each answers, and every byte of the pool and every number of the bank afterwards. They are said in the words
 -- of the pool's own calls. The bank is 32 numbers: 0 for an empty piston, else where the record's payload starts.
 use mathlib.Core.List.{List, _∷_}
-use Prim.Native.Nat.{ℕ, suc, _+_, _-_}
+use Prim.Native.Nat.{ℕ, _+_, _-_}
 use lib.ListN.{drop, getD, length, set as put, take as firsts}
 use Rattle.words.specs.Choice.{if<, if=, when}
 use Rattle.words.specs.Parts.{replacedPart}
-use Rattle.paper.specs.Answers.{Out, number}
+use Rattle.paper.specs.Answers.{number}
 use Rattle.paper.specs.declared.Answer.{Answer}
 use Rattle.paper.specs.declared.Answer.the-variants.{Done, Refused}
 use Rattle.pool.specs.Calls.{inspect, take, giveBack, askAll, part}

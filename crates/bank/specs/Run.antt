@@ -1,4 +1,5 @@
--- A run of calls on a bank, and what a dealer expects each piston to show after it: "each piston shows its latest accepted setting".
+-- A run of calls on a bank, and what a dealer expects each piston to show after it: "each piston shows its latest accepted setting" (request
+-- 2026-03).
 use mathlib.Core.List.{List, [], _∷_}
 use mathlib.Core.Logic.{_≢_, _⊎_}
 use mathlib.Core.Path.{_≡_}
@@ -10,7 +11,7 @@ use Rattle.words.specs.Words.{Bytes}
 use Rattle.paper.specs.Answers.{number, no-room}
 use Rattle.paper.specs.declared.Answer.the-variants.{Done}
 use Rattle.pool.specs.Calls.{take, giveBack, ask}
-use Rattle.bank.specs.Calls.{After, no-piston, no-record, set, clear, recall}
+use Rattle.bank.specs.Calls.{no-piston, no-record, set, clear, recall, shown}
 
 pub data Call : Type 0 where
   sets : (piston kind : ℕ) (body : List ℕ) → Call
@@ -124,3 +125,20 @@ Behaves bs bank (acts a ∷ xs) = Behaved bs bank a × Behaves (acted bs a) bank
 abbrev pub Fair : List Line → Type 0
 Fair [] = Unit {0}
 Fair (l ∷ ls) = ((l .number ≡ 0) ⊎ (l .number ≡ no-room) ⊎ (l .number ≡ no-piston) ⊎ (l .number ≡ no-record)) × Fair ls
+
+-- ---- what a run shows
+
+-- each piston's recall answers 0 and shows what the list of calls and answers says
+pub record Shows (r : Ran) : Type 0 where
+  pub accepted-recall : (piston : ℕ) → piston < 32 → recall (r .pool) (r .bank) piston .number ≡ 0
+  pub latest-setting : (piston : ℕ) → piston < 32 → shown (r .pool) (recall (r .pool) (r .bank) piston) ≡ latest piston [] (r .lines)
+  pub fair-answers : Fair (r .lines)
+
+-- ".. that only the bank uses": a run without neighbours
+abbrev pub alone : List Call → List Step
+alone [] = []
+alone (c ∷ cs) = calls c ∷ alone cs
+
+abbrev pub AllMade : List Call → Type 0
+AllMade [] = Unit {0}
+AllMade (c ∷ cs) = Made c × AllMade cs

@@ -1,6 +1,6 @@
 -- An accepted pool stays accepted: after a take and a give-back, refused or not, and after a write inside a held payload; and a buffer that is
 -- laid out is accepted. With `Holding` this is all that a user above the pool needs to know of its calls.
-use mathlib.Core.Path.{_≡_, refl, ap, _∙_, sym}
+use mathlib.Core.Path.{_≡_, refl}
 use mathlib.Core.List.{List}
 use Prim.Native.Nat.{ℕ, _+_, _≤_}
 use native.Mathlib.Omega.{arith}
@@ -9,7 +9,6 @@ use Rattle.words.proofs.Parts.{replaced-bytes}
 use Rattle.words.specs.Parts.{replacedPart}
 use Rattle.words.specs.Words.{Bytes}
 use Rattle.paper.specs.Allowed.{Allowed}
-use Rattle.paper.specs.Blocks.{State}
 use Rattle.paper.specs.Calls.{Reading, Reads, misfit, broken, sound, inspectCall, takeCall, giveBackCall}
 use Rattle.paper.specs.declared.Answer.the-variants.{Done, Refused}
 use Rattle.paper.specs.Honest.{takes, gives}

@@ -2,10 +2,9 @@
 -- pool, though its size is not 0, is refused for want of room.
 use mathlib.Core.Path.{_≡_, refl, ap, _∙_, sym, subst}
 use mathlib.Core.List.{List}
-use Prim.Native.Nat.{ℕ, _+_, _-_, _≤_}
+use Prim.Native.Nat.{ℕ, _≤_}
 use native.Mathlib.Omega.{arith}
 use lib.ListN.{length}
-use Rattle.words.specs.Words.{Bytes}
 use Rattle.paper.proofs.keeps.KeptStands.{kept-stands}
 use Rattle.paper.proofs.keeps.TakeGrants.{take-long-enough}
 use Rattle.paper.proofs.keeps.TakeKeeps.{take-keeps, take-refused-for-room}

@@ -3,22 +3,19 @@
 use mathlib.Core.Bool.{Bool, true, false}
 use mathlib.Core.List.{List, [], _∷_}
 use mathlib.Core.Logic.{_≢_, _⊎_, inl, inr}
-use mathlib.Core.Path.{_≡_, refl, ap, _∙_, sym, subst}
-use Prim.Native.Nat.{ℕ, zero, suc, _+_, _-_, _≤_}
+use mathlib.Core.Path.{_≡_, refl, ap, _∙_, sym}
+use Prim.Native.Nat.{ℕ, zero, suc}
 use native.Mathlib.Omega.{arith}
 use lib.ListN.{getD, length}
-use Rattle.words.specs.Choice.{by=, if=, if=-no, if=-yes, when, when-no, when-yes}
+use Rattle.words.specs.Choice.{by=, if=-no, if=-yes, when, when-yes}
 use Rattle.words.specs.Words.{Bytes}
 use Rattle.paper.proofs.runs.Asking.{ask-done}
-use Rattle.paper.proofs.runs.HeldPlaces.{heldAt}
 use Rattle.paper.specs.Answers.{not-allowed, not-held, not-sound}
 use Rattle.paper.specs.AskingAll.{allHeld, eachOnce, isDone}
 use Rattle.paper.specs.Bins.{count}
-use Rattle.paper.specs.Blocks.{State}
 use Rattle.paper.specs.Calls.{Reading, Reads, misfit, broken, sound, askCall, askAllCall, inspectCall}
 use Rattle.paper.specs.declared.Answer.{Answer}
 use Rattle.paper.specs.declared.Answer.the-variants.{Done, Refused}
-use Rattle.paper.specs.GivingBack.{ask as askState}
 use Rattle.pool.specs.Calls.{ask, askAll, inspect}
 use Rattle.pool.proofs.Accepting.{Accepted}
 use Rattle.pool.proofs.Holding.{Held, by-held, payloadOf, reads-stands}
