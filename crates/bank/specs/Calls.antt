@@ -1,5 +1,5 @@
--- The calls of the piston bank (request 2026-03): what each answers, and every byte of the pool and every number of the bank afterwards. They are said in the words
--- of the pool's own calls. The bank is 32 numbers: 0 for an empty piston, else where the record's payload starts.
+-- The calls of the piston bank (request 2026-03): what each answers, and every byte of the pool and every number of the bank afterwards. They are
+-- said in the words of the pool's own calls. The bank is 32 numbers: 0 for an empty piston, else where the record's payload starts.
 use mathlib.Core.List.{List, _∷_}
 use Prim.Native.Nat.{ℕ, _+_, _-_}
 use lib.ListN.{drop, getD, length, set as put, take as firsts}
