@@ -49,12 +49,14 @@
    that are changed in turn: examples/c/copies.h has it, in 35 lines, tried with a cut after every store. Or make the calls
    where they cannot be cut off.
 
-   There is no pool_lend: after `r = pool_ask(pool, n, offset)` is done, the payload is the pool_value(r) bytes at pool + offset. */
+   There is no pool_lend: after `r = pool_ask(pool, n, offset)` is done, the payload is the pool_value(r) bytes at pool + offset.
+
+   The piston bank, a product above the pool, has its calls in bank.h. */
 #ifndef POOL_H
 #define POOL_H
 
 /* What changed with each version: docs/CHANGES.md. */
-#define POOL_VERSION "0.2.1"
+#define POOL_VERSION "0.3.0"
 
 #include <stddef.h>
 #include <stdint.h>

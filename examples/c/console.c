@@ -1,62 +1,130 @@
-/* An organist's console keeps two settings in one pool: lay out, take, write, give back, and give back once too often. */
+/* A console with a piston bank: settings are stored, recalled and replaced, the pool runs full, and every refusal of the bank is met. */
 #include <stdio.h>
-#include <string.h>
 
-#include "pool.h"
+#include "bank.h"
 
-static unsigned char pool[1024];
+/* On a board both stand in the battery-backed memory, together. The pool is a small one, so that it is full soon. */
+static unsigned char pool[320];
+static uint32_t bank[BANK_PISTONS]; /* zeros: every piston is empty */
 
 static const char *in_words(uint32_t refusal) {
     switch (refusal) {
-    case POOL_DONE: return "done";
     case POOL_NOT_ALLOWED: return "the length is not allowed";
     case POOL_NOT_SOUND: return "the pool is not sound";
-    case POOL_SIZE_ZERO: return "the size is 0";
     case POOL_NO_ROOM: return "there is no room";
-    case POOL_NOT_HELD: return "no held payload starts there";
-    case POOL_LIST_LENGTH: return "the list has the wrong length";
-    default: return "no answer of this pool";
+    case BANK_NO_PISTON: return "there is no such piston";
+    case BANK_NO_RECORD: return "no record has that kind and length";
+    case BANK_NOT_NAMED: return "what the bank names is not held, or named twice, or no record";
+    default: return "no answer of this bank";
     }
 }
 
-static uint32_t say(const char *what, uint64_t result) {
-    uint32_t refusal = pool_refusal(result), value = pool_value(result);
+static void say(uint64_t result) {
+    uint32_t refusal = pool_refusal(result);
     if (refusal)
-        printf("%s: refused with %u, %s\n", what, (unsigned)refusal, in_words(refusal));
+        printf("refused with %u, %s\n", (unsigned)refusal, in_words(refusal));
     else
-        printf("%s: %s, %u\n", what, in_words(refusal), (unsigned)value);
-    return value;
+        puts("done");
 }
 
-/* Takes room for a text and writes it there. */
-static uint32_t keep(const char *what, const char *text) {
-    uint32_t offset = say(what, pool_take(pool, sizeof pool, (uint32_t)strlen(text) + 1));
-    if (offset) strcpy((char *)pool + offset, text);
-    return offset;
+static void set(uint32_t piston, uint8_t kind, const unsigned char *tabs, size_t length) {
+    printf("set piston %u, kind %u, %u bytes: ", (unsigned)piston, (unsigned)kind, (unsigned)length);
+    say(bank_set(pool, sizeof pool, bank, piston, kind, tabs, length));
+}
+
+static void clear(uint32_t piston) {
+    printf("clear piston %u: ", (unsigned)piston);
+    say(bank_clear(pool, sizeof pool, bank, piston));
+}
+
+/* The record is a part of the pool: its byte of kind, then the tab bits. */
+static void recall(uint32_t piston) {
+    uint64_t result = bank_recall(pool, sizeof pool, bank, piston);
+    printf("recall piston %u: ", (unsigned)piston);
+    if (pool_refusal(result)) {
+        say(result);
+    } else if (pool_value(result) == 0) {
+        puts("empty");
+    } else {
+        const unsigned char *record = pool + bank[piston], *end = record + pool_value(result);
+        printf("kind %u, ", (unsigned)*record);
+        while (++record < end) printf("%02x", (unsigned)*record);
+        puts("");
+    }
+}
+
+/* After a 12: empties each piston that names what is not held, or what a piston before it names. */
+static void mend(void) {
+    int i, k, wrong;
+    for (i = 0; i < BANK_PISTONS; i++) {
+        wrong = bank[i] && pool_refusal(pool_ask(pool, sizeof pool, bank[i]));
+        for (k = 0; k < i; k++) wrong |= bank[i] && bank[k] == bank[i];
+        if (wrong) {
+            bank[i] = 0;
+            printf("mend: piston %d is empty now\n", i);
+        }
+    }
 }
 
 int main(void) {
-    uint32_t great, swell, figures[POOL_FIGURES];
+    static const unsigned char flutes[8] = {0x81, 0x02}, strings[16] = {0x18, 0x00, 0x40}, reeds[32] = {0x0f, 0xf0}, tutti[32] = {0xff, 0xff, 0xff};
 
-    say("lay out", pool_lay_out(pool, sizeof pool));
-    great = keep("take for the great", "Principal 8, Octave 4, Mixture IV, and all the reeds of the great organ, as the bishop likes it");
-    swell = keep("take for the swell", "Gamba 8");
-    say("ask about the great", pool_ask(pool, sizeof pool, great));
-    printf("the great has: %s\n", (char *)pool + great);
-    printf("the swell has: %s\n", (char *)pool + swell);
+    printf("lay out %u bytes: ", (unsigned)sizeof pool);
+    say(pool_lay_out(pool, sizeof pool));
 
-    say("give the great back", pool_give_back(pool, sizeof pool, great));
-    say("give the great back again", pool_give_back(pool, sizeof pool, great));
-    printf("the swell has: %s\n", (char *)pool + swell);
-    say("take 2,000 bytes", pool_take(pool, sizeof pool, 2000));
+    puts("-- three settings, one of each kind");
+    set(0, BANK_EIGHT, flutes, sizeof flutes);
+    set(1, BANK_SIXTEEN, strings, sizeof strings);
+    set(2, BANK_THIRTY_TWO, reeds, sizeof reeds);
+    recall(0);
+    recall(1);
+    recall(2);
+    recall(3);
 
-    say("figures", pool_figures(pool, sizeof pool, figures, POOL_FIGURES));
-    printf("held bytes %u, free word %u, largest grant %u\n", (unsigned)figures[POOL_HELD_BYTES], (unsigned)figures[POOL_FREE_WORD],
-           (unsigned)figures[POOL_LARGEST]);
-    say("take one byte more than the largest grant", pool_take(pool, sizeof pool, figures[POOL_LARGEST] + 1));
-    say("take the largest grant", pool_take(pool, sizeof pool, figures[POOL_LARGEST]));
+    puts("-- piston 0 is set anew; then the pool is full, and piston 2 keeps its old setting");
+    set(0, BANK_SIXTEEN, strings, sizeof strings);
+    recall(0);
+    set(3, BANK_THIRTY_TWO, reeds, sizeof reeds);
+    set(2, BANK_THIRTY_TWO, tutti, sizeof tutti);
+    recall(2);
 
-    pool[0] ^= 1; /* a bit falls over in the battery-backed memory */
-    say("inspect", pool_inspect(pool, sizeof pool));
+    puts("-- clearing makes room; to clear an empty piston is no fault");
+    clear(3);
+    clear(3);
+    recall(3);
+    set(2, BANK_THIRTY_TWO, tutti, sizeof tutti);
+    recall(2);
+
+    puts("-- a wrong piston, kind, length of a body, length of a pool");
+    set(32, BANK_EIGHT, flutes, sizeof flutes);
+    set(0, 4, flutes, sizeof flutes);
+    set(0, BANK_EIGHT, strings, sizeof strings);
+    printf("recall in %u bytes: ", (unsigned)sizeof pool - 1);
+    say(bank_recall(pool, sizeof pool - 1, bank, 0));
+
+    puts("-- somebody gives the block of piston 1 back: every call is refused until the bank is mended");
+    pool_give_back(pool, sizeof pool, bank[1]);
+    recall(0);
+    mend();
+    recall(0);
+
+    puts("-- pistons 2 and 31 name one record");
+    bank[31] = bank[2];
+    clear(0);
+    mend();
+    clear(0);
+
+    puts("-- the record of piston 2 does not read: another kind, then one that is longer than its payload");
+    pool[bank[2]] = 4;
+    recall(2);
+    set(2, BANK_EIGHT, flutes, sizeof flutes);
+    recall(2);
+    pool[bank[2]] = BANK_THIRTY_TWO;
+    recall(2);
+    clear(2);
+
+    puts("-- a bit falls over in the battery-backed memory");
+    pool[0] ^= 1;
+    recall(2);
     return 0;
 }

@@ -12,6 +12,8 @@
 //! # Ok::<(), Refusal>(())
 //! ```
 //!
+//! Above the pool stands [`Bank`], a bank of 32 pistons, each empty or naming one [`Record`] of the pool.
+//!
 //! Every call reads the pool's bytes first, and a refusal changes none of them. What each answers is proved of the library
 //! (`docs/PROMISES.md`); here it is only passed on. An answer that the library's contract rules out is not believed: it comes back
 //! as [`Refusal::Unforeseen`], and nothing panics.
@@ -24,10 +26,12 @@
 #[cfg(any(feature = "std", test))]
 extern crate std;
 
+mod bank;
 #[allow(unsafe_code)]
 mod raw;
 mod refusal;
 
+pub use bank::{Bank, Record, PISTONS};
 use core::fmt;
 pub use refusal::Refusal;
 use refusal::{answer, within};

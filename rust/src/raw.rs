@@ -1,4 +1,4 @@
-//! The calls of `include/pool.h`, with slices for pointers and lengths. All that is unsafe stands here.
+//! The calls of `include/pool.h` and `include/bank.h`, with slices for pointers and lengths. All that is unsafe stands here.
 
 mod c {
     extern "C" {
@@ -9,12 +9,24 @@ mod c {
         pub fn pool_ask(pool: *const u8, n: usize, offset: u32) -> u64;
         pub fn pool_figures(pool: *const u8, n: usize, figures: *mut u32, count: usize) -> u64;
         pub fn pool_class_count(pool: *const u8, n: usize, counts: *mut u32, count: usize) -> u64;
+        pub fn bank_set(
+            pool: *mut u8,
+            n: usize,
+            bank: *mut u32,
+            piston: u32,
+            kind: u8,
+            body: *const u8,
+            length: usize,
+        ) -> u64;
+        pub fn bank_clear(pool: *mut u8, n: usize, bank: *mut u32, piston: u32) -> u64;
+        pub fn bank_recall(pool: *const u8, n: usize, bank: *const u32, piston: u32) -> u64;
     }
 }
 
-// One reason for all seven. The header asks for n readable (or writable) bytes that nobody else writes (or uses) during the call, and
-// that share no byte with the list: a `&[u8]` (a `&mut [u8]`) is that, and a `&mut [u32]` is apart from it. An empty slice may
-// dangle. The calls keep no pointer, and answer for every n, number and bytes.
+// One reason for all of them. The headers ask for n readable (or writable) bytes that nobody else writes (or uses) during the call, and
+// that share no byte with what else the call is lent: a `&[u8]` (a `&mut [u8]`) is that, and what a `&mut` lends is apart from all else. Of
+// what is only read, nothing is asked but that it stays. An empty slice may dangle. The calls keep no pointer, and answer for every n,
+// number and bytes.
 
 pub fn lay_out(pool: &mut [u8]) -> u64 {
     // SAFETY: pointer and length are those of one exclusive slice.
@@ -49,4 +61,22 @@ pub fn figures(pool: &[u8], figures: &mut [u32]) -> u64 {
 pub fn class_count(pool: &[u8], counts: &mut [u32]) -> u64 {
     // SAFETY: each pointer and length are those of one slice; the pool is only read, and the list is exclusive, so they are apart.
     unsafe { c::pool_class_count(pool.as_ptr(), pool.len(), counts.as_mut_ptr(), counts.len()) }
+}
+
+pub fn bank_set(pool: &mut [u8], bank: &mut [u32; 32], piston: u32, kind: u8, body: &[u8]) -> u64 {
+    let (start, length) = (body.as_ptr(), body.len());
+    // SAFETY: each pointer and length are those of one slice, the bank is 32 numbers; pool and bank are exclusive, so all three are apart.
+    unsafe {
+        c::bank_set(pool.as_mut_ptr(), pool.len(), bank.as_mut_ptr(), piston, kind, start, length)
+    }
+}
+
+pub fn bank_clear(pool: &mut [u8], bank: &mut [u32; 32], piston: u32) -> u64 {
+    // SAFETY: pointer and length are those of one exclusive slice, and the bank is 32 exclusive numbers, so they are apart.
+    unsafe { c::bank_clear(pool.as_mut_ptr(), pool.len(), bank.as_mut_ptr(), piston) }
+}
+
+pub fn bank_recall(pool: &[u8], bank: &[u32; 32], piston: u32) -> u64 {
+    // SAFETY: pointer and length are those of one shared slice, and the bank is 32 shared numbers; the call only reads both.
+    unsafe { c::bank_recall(pool.as_ptr(), pool.len(), bank.as_ptr(), piston) }
 }

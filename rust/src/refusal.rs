@@ -15,6 +15,13 @@ pub enum Refusal {
     NoRoom,
     /// 5: the offset is not the start of a held payload.
     NotHeld,
+    /// 10: the piston is above 31.
+    NoPiston,
+    /// 11: the kind is unknown, or the body has another length than its kind says. Only [`Record::new`](crate::Record::new) meets it.
+    NoRecord,
+    /// 12: the bank names an offset that is not held, or one offset twice; or the recalled record does not read. [`Bank`](crate::Bank) says
+    /// what to do.
+    NotNamed,
     /// The library answered what its contract rules out, so it is not the proved one. The answer as it came.
     Unforeseen(u64),
 }
@@ -28,6 +35,9 @@ impl Refusal {
             Refusal::SizeZero => Some(3),
             Refusal::NoRoom => Some(4),
             Refusal::NotHeld => Some(5),
+            Refusal::NoPiston => Some(10),
+            Refusal::NoRecord => Some(11),
+            Refusal::NotNamed => Some(12),
             Refusal::Unforeseen(_) => None,
         }
     }
@@ -43,6 +53,11 @@ impl fmt::Display for Refusal {
             Refusal::SizeZero => write!(f, "the size is 0"),
             Refusal::NoRoom => write!(f, "no room by the grant rule"),
             Refusal::NotHeld => write!(f, "the offset is not the start of a held payload"),
+            Refusal::NoPiston => write!(f, "the piston is above 31"),
+            Refusal::NoRecord => write!(f, "the kind is unknown, or its body has another length"),
+            Refusal::NotNamed => {
+                write!(f, "the bank names an offset that is not held, or one twice, or no record")
+            }
             Refusal::Unforeseen(result) => {
                 write!(f, "the library answered {result:#x}, which its contract rules out")
             }
@@ -90,7 +105,7 @@ mod tests {
 
     #[test]
     fn any_other_answer_is_unforeseen() {
-        for result in [2 << 32, 6 << 32, 7 << 32, 1 << 63, (5 << 32) + 1, u64::MAX] {
+        for result in [2 << 32, 6 << 32, 7 << 32, 12 << 32, 1 << 63, (5 << 32) + 1, u64::MAX] {
             assert_eq!(answer(result, &MAY), Err(Refusal::Unforeseen(result)));
         }
     }
@@ -111,9 +126,12 @@ mod tests {
             Refusal::SizeZero,
             Refusal::NoRoom,
             Refusal::NotHeld,
+            Refusal::NoPiston,
+            Refusal::NoRecord,
+            Refusal::NotNamed,
         ]
         .map(|r| r.number());
-        assert_eq!(numbers, [Some(1), Some(2), Some(3), Some(4), Some(5)]);
+        assert_eq!(numbers, [1, 2, 3, 4, 5, 10, 11, 12].map(Some));
         assert_eq!(Refusal::Unforeseen(7 << 32).number(), None);
         assert_eq!(Refusal::NotHeld.to_string(), "the offset is not the start of a held payload");
         assert_eq!(
