@@ -46,7 +46,7 @@
 
    A call that is cut off midway (a reset, the power, a watchdog) may have made some of its stores and not the others. Where that leaves
    a pool that is not sound, every later call says POOL_NOT_SOUND, and no call can mend it. Records that must outlive this are kept in two copies
-   that are changed in turn: examples/c/copies.h has it, in 35 lines, tried with a cut after every store. Or make the calls
+   that are changed in turn: examples/c/copies.h has it, in 40 lines, tried with a cut after every store. Or make the calls
    where they cannot be cut off.
 
    There is no pool_lend: after `r = pool_ask(pool, n, offset)` is done, the payload is the pool_value(r) bytes at pool + offset.

@@ -1,27 +1,27 @@
-/* Records that outlive a reset in the middle of a call: two copies of one pool, changed in turn.
+/* Records that outlive a reset in the middle of a call: two copies of one pool and its piston bank, changed in turn.
 
-   A call that is cut off between two of its stores may leave a pool that every later call refuses with POOL_NOT_SOUND. So calls are made
-   on the copy that is not believed, and one store of one word makes it the believed one. Both copies stand in the memory that
-   keeps its bytes, and `completed` is aligned, so that the word is stored whole or not at all:
+   A call that is cut off between two of its stores may leave a pool that every later call refuses with POOL_NOT_SOUND, or a bank that does
+   not belong to its pool. So calls are made on the copy that is not believed, and one store of one word makes it the believed one. Both
+   copies stand in the memory that keeps its bytes, and `completed` is aligned, so that the word is stored whole or not at all:
 
        struct copy *change = begin(&memory);            the other copy, with what the believed one has
-       r = pool_take(change->pool, sizeof change->pool, 100);
-       memcpy(change->pool + pool_value(r), record, 100);
+       r = bank_set(change->pool, sizeof change->pool, change->bank, 3, BANK_EIGHT, tabs, sizeof tabs);
        complete(&memory, change);                       from here on the change holds
 
-   After a reset believed(&memory) is the pool as it was before the change or as it was after it. It is NULL in memory that was never
-   laid out: call lay_out_first then, before the first begin. Where stores wait in a cache, `in_order` has to push them out too. */
+   After a reset believed(&memory) has pool and bank as they were before the change or as they were after it. It is NULL in memory that was
+   never laid out: call lay_out_first then, before the first begin. Where stores wait in a cache, `in_order` has to push them out too. */
 #ifndef COPIES_H
 #define COPIES_H
 
 #include <stdatomic.h>
 #include <string.h>
 
-#include "pool.h"
+#include "bank.h"
 
 enum { POOL_BYTES = 1024 };
 struct copy {
     volatile uint32_t completed; /* when, as a count of changes; 0 while it is changed */
+    uint32_t bank[BANK_PISTONS];
     unsigned char pool[POOL_BYTES];
 };
 struct copies {
@@ -43,6 +43,7 @@ static inline struct copy *begin(struct copies *c) {
     struct copy *from = believed(c), *to = &c->copy[from == c->copy];
     to->completed = 0;
     in_order();
+    memcpy(to->bank, from->bank, sizeof to->bank);
     memcpy(to->pool, from->pool, sizeof to->pool);
     return to;
 }
@@ -56,6 +57,7 @@ static inline void complete(struct copies *c, struct copy *changed) {
 static inline void lay_out_first(struct copies *c) {
     c->copy[0].completed = c->copy[1].completed = 0;
     in_order();
+    memset(c->copy[0].bank, 0, sizeof c->copy[0].bank);
     pool_lay_out(c->copy[0].pool, sizeof c->copy[0].pool);
     in_order();
     c->copy[0].completed = 1;

@@ -1,6 +1,6 @@
 /* Cuts changes off at every store, as a reset would, and looks at what stands there then: with copies.h it is always the old or the
-   new records; one pool alone is often refused. The processor's trap flag stops the program after every instruction; where the memory
-   has changed since the one before, that is a place to cut. The last line is `N passed, M failed`. */
+   new records, in pool and bank; one pool alone is often refused. The processor's trap flag stops the program after every instruction;
+   where the memory has changed since the one before, that is a place to cut. The last line is `N passed, M failed`. */
 #define _POSIX_C_SOURCE 200809L
 #include <signal.h>
 #include <stdio.h>
@@ -10,8 +10,12 @@
 #include "copies.h"
 
 static struct copies memory, seen;          /* the memory that keeps its bytes, and what stood there after the last instruction */
-static unsigned char before[POOL_BYTES], after[POOL_BYTES];
+static struct copy before, after;
 static unsigned cuts, old_ones, new_ones, wrong, lone_cuts, lone_refused;
+
+static int same(const struct copy *a, const struct copy *b) {
+    return !memcmp(a->bank, b->bank, sizeof a->bank) && !memcmp(a->pool, b->pool, sizeof a->pool);
+}
 
 /* What a console does after a reset: on a copy of the memory, since the change goes on here. */
 static void after_a_reset(void) {
@@ -20,12 +24,12 @@ static void after_a_reset(void) {
     memcpy(&found, &memory, sizeof found);
     copy = believed(&found);
     cuts++;
-    if (copy && !memcmp(copy->pool, before, POOL_BYTES)) old_ones++;
-    else if (copy && !memcmp(copy->pool, after, POOL_BYTES)) new_ones++;
+    if (copy && same(copy, &before)) old_ones++;
+    else if (copy && same(copy, &after)) new_ones++;
     else wrong++;
 }
 
-static unsigned char lone[POOL_BYTES], lone_seen[POOL_BYTES];
+static struct copy lone, lone_seen;
 
 static void one_step(int number) {
     (void)number;
@@ -33,57 +37,71 @@ static void one_step(int number) {
         memcpy(&seen, &memory, sizeof seen);
         after_a_reset();
     }
-    if (memcmp(lone_seen, lone, sizeof lone)) {
-        memcpy(lone_seen, lone, sizeof lone);
+    if (!same(&lone_seen, &lone)) {
+        memcpy(&lone_seen, &lone, sizeof lone);
         lone_cuts++;
-        if (pool_refusal(pool_inspect(lone, sizeof lone))) lone_refused++;
+        if (pool_refusal(pool_inspect(lone.pool, sizeof lone.pool))) lone_refused++;
     }
 }
 
-/* Each change: takes a record of `size` bytes and fills it, or gives back the one that change number `of` took. */
-static const struct change { uint32_t size; int of; } changes[] = {
-    {100, 0}, {10, 0}, {72, 0}, {200, 0}, {10, 0}, {0, 0}, {0, 2}, {60, 0}, {0, 3}, {90, 0}, {0, 9}, {0, 1}, {0, 4}, {300, 0},
+/* Each change: takes a block of so many bytes and fills it; gives back what the change of that number took; sets that piston to a record of
+   that kind; or clears it. */
+enum what { TAKE, GIVE, SET, CLEAR };
+static const struct change { enum what what; uint32_t number; uint8_t kind; } changes[] = {
+    {TAKE, 100, 0}, {TAKE, 10, 0}, {TAKE, 72, 0}, {TAKE, 200, 0}, {TAKE, 10, 0}, {GIVE, 0, 0},  {GIVE, 2, 0}, {TAKE, 60, 0},
+    {GIVE, 3, 0},   {TAKE, 90, 0}, {GIVE, 9, 0},  {GIVE, 1, 0},   {GIVE, 4, 0},  {TAKE, 300, 0}, {SET, 3, 1},  {SET, 5, 3},
+    {SET, 3, 2},    {SET, 5, 3},   {SET, 0, 1},   {CLEAR, 3, 0},  {SET, 5, 2},   {CLEAR, 5, 0},
 };
 enum { CHANGES = sizeof changes / sizeof changes[0] };
 static uint32_t offsets[CHANGES];
 
-static void make(unsigned char *pool, int i) {
-    if (changes[i].size) {
-        uint64_t r = pool_take(pool, POOL_BYTES, changes[i].size);
+static void make(struct copy *copy, int i) {
+    static const size_t BODY[] = {0, 8, 16, 32}; /* by the kind */
+    const struct change *c = &changes[i];
+    unsigned char tabs[32];
+    uint64_t r;
+    memset(tabs, 'a' + i, sizeof tabs);
+    switch (c->what) {
+    case TAKE: r = pool_take(copy->pool, POOL_BYTES, c->number); break;
+    case GIVE: r = pool_give_back(copy->pool, POOL_BYTES, offsets[c->number]); break;
+    case SET: r = bank_set(copy->pool, POOL_BYTES, copy->bank, c->number, c->kind, tabs, BODY[c->kind]); break;
+    default: r = bank_clear(copy->pool, POOL_BYTES, copy->bank, c->number);
+    }
+    if (pool_refusal(r)) {
+        wrong++;
+    } else if (c->what == TAKE) {
         offsets[i] = pool_value(r);
-        if (!pool_refusal(r)) memset(pool + offsets[i], 'a' + i, changes[i].size);
-    } else {
-        if (pool_refusal(pool_give_back(pool, POOL_BYTES, offsets[changes[i].of]))) wrong++;
+        memset(copy->pool + offsets[i], 'a' + i, c->number);
     }
 }
 
 int main(void) {
     lay_out_first(&memory);
-    pool_lay_out(lone, sizeof lone);
+    pool_lay_out(lone.pool, sizeof lone.pool);
     sigaction(SIGTRAP, &(struct sigaction){.sa_handler = one_step}, NULL);
     for (int i = 0; i < CHANGES; i++) {
         struct copy *change;
-        memcpy(before, believed(&memory)->pool, POOL_BYTES);
-        memcpy(after, before, POOL_BYTES);
-        make(after, i);
+        memcpy(&before, believed(&memory), sizeof before);
+        memcpy(&after, &before, sizeof after);
+        make(&after, i);
         memcpy(&seen, &memory, sizeof seen);
-        memcpy(lone_seen, lone, sizeof lone);
+        memcpy(&lone_seen, &lone, sizeof lone);
 
         TRAP_ON;
         change = begin(&memory);
-        make(change->pool, i);
+        make(change, i);
         complete(&memory, change);
         TRAP_OFF;
-        if (memcmp(believed(&memory)->pool, after, POOL_BYTES)) wrong++;
+        if (!same(believed(&memory), &after)) wrong++;
 
         TRAP_ON;
-        make(lone, i);
+        make(&lone, i);
         TRAP_OFF;
     }
     printf("two copies, %d changes cut off after each of %u stores: %u times the old records, %u times the new ones, %u times neither\n",
         (int)CHANGES, cuts, old_ones, new_ones, wrong);
-    printf("one pool alone, cut off after each of %u stores: %u times every later call refuses it\n", lone_cuts, lone_refused);
-    /* every change has been seen before and after its last store, and the lone pool is there to show that there is something to lose */
+    printf("one pool and bank alone, cut off after each of %u stores: %u times every later call refuses it\n", lone_cuts, lone_refused);
+    /* every change has been seen before and after its last store, and the lone copy is there to show that there is something to lose */
     int good = !wrong && old_ones && new_ones >= CHANGES && lone_refused;
     printf("%d passed, %d failed\n", good, !good);
     return !good;
