@@ -53,7 +53,7 @@ module _ (bs bank : List ℕ) (piston : ℕ) (why : ℕ) (e : why ≡ refusal bs
       -- the record ends within the pool
       found-within : Bytes bs → o + long ≤ length bs
       found-within bytes =
-          let h = asked-names bs bank bytes _ (nothing-refuses bs bank piston why e z .asked) .held piston n in
+          let h = asked-names bs bank piston _ (nothing-refuses bs bank piston why e z .asked .1) bytes .held piston n in
           omega (arith, held-there bs bytes o (h .0) (h .1) .within, l ∙ ap recordIn (h .1 .lent), record-within (h .0))
 
       pub found-fits : Bytes bs → o + long ≤ 65536

@@ -1,6 +1,7 @@
 pub mod RecordLaws
 pub mod Writing
 pub mod Refusals
+pub mod AskedOnce
 pub mod Outcomes
 pub mod Finding
 pub mod Refused

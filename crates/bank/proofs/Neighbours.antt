@@ -59,12 +59,12 @@ act-leaves bs bank A (writes a new) b =
 
 -- ---- a recall
 
-module _ (bs bank : List ℕ) (bytes : Bytes bs) (v : ℕ) (asked : askAll bs bank ≡ Done v) (a : Act) (b : Behaved bs bank a) (p : ℕ) where
+module _ (bs bank : List ℕ) (bytes : Bytes bs) (p v : ℕ) (asked : askAll bs bank p ≡ Done v) (a : Act) (b : Behaved bs bank a) where
   A : Accepted bs
-  A = asked-accepted bs bank bytes v asked
+  A = asked-accepted bs bank p v asked bytes
 
   N : Names bs bank
-  N = asked-names bs bank bytes v asked
+  N = asked-names bs bank p v asked bytes
 
   L : Leaves bs bank (acted bs a)
   L = act-leaves bs bank A a b

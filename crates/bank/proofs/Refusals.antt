@@ -24,8 +24,8 @@ unfolding orElse
 else-first a b l = if=-no a 0 _ _ (λ e. omega arith)
 
 module _ (bs bank : List ℕ) (A : Accepted bs) (N : Names bs bank) (piston : ℕ) where
-  named : if= (number (askAll bs bank)) 0 0 not-named ≡ 0
-  named = if=-yes (number (askAll bs bank)) 0 0 not-named (ap number (names-asked bs bank A N))
+  named : if= (number (askAll bs bank piston)) 0 0 not-named ≡ 0
+  named = if=-yes (number (askAll bs bank piston)) 0 0 not-named (ap number (names-asked bs bank A N piston .1))
 
   pub by-piston : refusal bs bank piston ≡ past piston 0
   unfolding refusal
@@ -53,7 +53,7 @@ module _ (bs bank : List ℕ) (piston : ℕ) where
       nonzero (inl f) = omega arith
       nonzero (inr f) = omega arith
 
-  asked : (v : ℕ) → inspect bs ≡ Done v → (a : Answer) → askAll bs bank ≡ a
+  asked : (v : ℕ) → inspect bs ≡ Done v → (a : Answer) → askAll bs bank piston ≡ a
       → past piston (if= (number a) 0 0 not-named) ≡ refusal bs bank piston
   unfolding refusal
   asked v e a f =
@@ -63,20 +63,20 @@ module _ (bs bank : List ℕ) (piston : ℕ) where
   never k v e = absurd (let z : _≡_ {A = ℕ} 0 1 = cc in omega arith)
 
   -- it names held payloads, each once
-  pub refusal-named : (v : ℕ) → askAll bs bank ≡ Done v → past piston 0 ≡ refusal bs bank piston
+  pub refusal-named : (v : ℕ) → askAll bs bank piston ≡ Done v → past piston 0 ≡ refusal bs bank piston
   refusal-named v e = go (inspect bs) refl
     where
       go : (a : Answer) → inspect bs ≡ a → past piston 0 ≡ refusal bs bank piston
-      go (Refused k) f = never k v (sym (ask-all-refused bs bank k f) ∙ e)
+      go (Refused k) f = never k v (sym (ask-all-refused bs bank piston k f) ∙ e)
       go (Done w) f = ap (past piston) (sym (if=-yes 0 0 0 not-named refl)) ∙ asked w f (Done v) e
 
   -- it does not
-  pub refusal-unnamed : (k : ℕ) → askAll bs bank ≡ Refused k → k ≡ not-held → past piston not-named ≡ refusal bs bank piston
+  pub refusal-unnamed : (k : ℕ) → askAll bs bank piston ≡ Refused k → k ≡ not-held → past piston not-named ≡ refusal bs bank piston
   refusal-unnamed k e h = go (inspect bs) refl
     where
       go : (a : Answer) → inspect bs ≡ a → past piston not-named ≡ refusal bs bank piston
       go (Refused j) f =
-          let g : Refused j ≡ Refused k = sym (ask-all-refused bs bank j f) ∙ e in
+          let g : Refused j ≡ Refused k = sym (ask-all-refused bs bank piston j f) ∙ e in
           let same : j ≡ k = cc in
           absurd (not-five (inspect-numbers bs j f) (same ∙ h))
         where
@@ -86,15 +86,15 @@ module _ (bs bank : List ℕ) (piston : ℕ) where
       go (Done w) f = ap (past piston) (sym (if=-no k 0 0 not-named (λ z. omega arith))) ∙ asked w f (Refused k) e
 
   -- the pool was not read
-  pub refusal-unread : (k : ℕ) → askAll bs bank ≡ Refused k → k ≢ not-held → k ≡ refusal bs bank piston
+  pub refusal-unread : (k : ℕ) → askAll bs bank piston ≡ Refused k → k ≢ not-held → k ≡ refusal bs bank piston
   refusal-unread k e n = go (inspect bs) refl
     where
       go : (a : Answer) → inspect bs ≡ a → k ≡ refusal bs bank piston
-      go (Refused j) f = let g : Refused k ≡ Refused j = sym e ∙ ask-all-refused bs bank j f in let same : k ≡ j = cc in same ∙ unread j f
-      go (Done w) f = other (ask-all-either bs bank w f)
+      go (Refused j) f = let g : Refused k ≡ Refused j = sym e ∙ ask-all-refused bs bank piston j f in let same : k ≡ j = cc in same ∙ unread j f
+      go (Done w) f = other (ask-all-either bs bank piston w f)
         where
-          other : (askAll bs bank ≡ Done (length bs)) ⊎ (askAll bs bank ≡ Refused not-held) → k ≡ refusal bs bank piston
-          other (inl g) = never k (length bs) (sym e ∙ g)
+          other : ((v : ℕ) × (askAll bs bank piston ≡ Done v)) ⊎ (askAll bs bank piston ≡ Refused not-held) → k ≡ refusal bs bank piston
+          other (inl g) = never k (g .0) (sym e ∙ g .1)
           other (inr g) = let x : Refused k ≡ Refused not-held = sym e ∙ g in let same : k ≡ not-held = cc in absurd (n same)
 
 -- ---- where nothing refuses
@@ -102,7 +102,7 @@ module _ (bs bank : List ℕ) (piston : ℕ) where
 pub record Passed (bs bank : List ℕ) (piston : ℕ) : Type 0 where
   pub below : piston < 32
   pub inspected : inspect bs ≡ Done (length bs)
-  pub asked : askAll bs bank ≡ Done (length bs)
+  pub asked : (w : ℕ) × (askAll bs bank piston ≡ Done w)
 
 else-zero : (a b : ℕ) → orElse a b ≡ 0 → (a ≡ 0) × (b ≡ 0)
 unfolding orElse
@@ -121,14 +121,14 @@ module _ (bs bank : List ℕ) (piston : ℕ) where
       let p = past-zero piston _ (a .1) in
       go (inspect bs) refl (a .0) (p .0) (p .1)
     where
-      go : (a : Answer) → inspect bs ≡ a → number (inspect bs) ≡ 0 → piston < 32 → if= (number (askAll bs bank)) 0 0 not-named ≡ 0 → Passed bs bank piston
+      go : (a : Answer) → inspect bs ≡ a → number (inspect bs) ≡ 0 → piston < 32 → if= (number (askAll bs bank piston)) 0 0 not-named ≡ 0 → Passed bs bank piston
       go (Refused k) f n l m = absurd (zero-number (inspect-numbers bs k f) (sym (ap number f) ∙ n))
         where
           zero-number : (k ≡ not-allowed) ⊎ (k ≡ not-sound) → k ≡ 0 → ⊥
           zero-number (inl x) y = omega arith
           zero-number (inr x) y = omega arith
-      go (Done v) f n l m = record { below = l; inspected = inspect-value bs v f; asked = named (ask-all-either bs bank v f) }
+      go (Done v) f n l m = record { below = l; inspected = inspect-value bs v f; asked = named (ask-all-either bs bank piston v f) }
         where
-          named : (askAll bs bank ≡ Done (length bs)) ⊎ (askAll bs bank ≡ Refused not-held) → askAll bs bank ≡ Done (length bs)
+          named : ((w : ℕ) × (askAll bs bank piston ≡ Done w)) ⊎ (askAll bs bank piston ≡ Refused not-held) → (w : ℕ) × (askAll bs bank piston ≡ Done w)
           named (inl g) = g
-          named (inr g) = absurd (omega (arith, if=-no {A = ℕ} (number (askAll bs bank)) 0 0 not-named (λ y. omega (arith, ap number g)), m))
+          named (inr g) = absurd (omega (arith, if=-no {A = ℕ} (number (askAll bs bank piston)) 0 0 not-named (λ y. omega (arith, ap number g)), m))

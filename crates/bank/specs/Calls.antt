@@ -36,7 +36,7 @@ past piston next = if< piston 32 next no-piston
 
 -- "order 1, 2, 10, 12": what every call asks first, the whole bank's names included
 unfoldable pub refusal : (pool bank : List ℕ) (piston : ℕ) → ℕ
-refusal bs bank piston = orElse (number (inspect bs)) (past piston (if= (number (askAll bs bank)) 0 0 not-named))
+refusal bs bank piston = orElse (number (inspect bs)) (past piston (if= (number (askAll bs bank piston)) 0 0 not-named))
 
 -- ---- what a call leaves
 

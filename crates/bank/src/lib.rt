@@ -21,9 +21,9 @@ use paper::Answer;
 pub fn set(pool: &mut [u8], bank: &mut [u32; 32], piston: u32, kind: u8, body: &[u8]) -> Answer
     ensures { λ r. ⌜ call.set (now (pool .entry)) (now (bank .entry)) piston kind (now (body .entry)) ≡ after r (now (pool .exit)) (now (bank .exit)) ⌝ }
 {
-    let why = naming::refusal(pool, bank, piston);
-    if why != 0 {
-        return Answer::Refused(why);
+    let asked = naming::asked(pool, bank, piston);
+    if asked.why != 0 {
+        return Answer::Refused(asked.why);
     }
     if !records::is_record(kind, body) {
         return Answer::Refused(naming::NO_RECORD);
@@ -47,9 +47,9 @@ pub fn set(pool: &mut [u8], bank: &mut [u32; 32], piston: u32, kind: u8, body: &
 pub fn clear(pool: &mut [u8], bank: &mut [u32; 32], piston: u32) -> Answer
     ensures { λ r. ⌜ call.clear (now (pool .entry)) (now (bank .entry)) piston ≡ after r (now (pool .exit)) (now (bank .exit)) ⌝ }
 {
-    let why = naming::refusal(pool, bank, piston);
-    if why != 0 {
-        return Answer::Refused(why);
+    let asked = naming::asked(pool, bank, piston);
+    if asked.why != 0 {
+        return Answer::Refused(asked.why);
     }
     let at = piston as usize;
     let offset = bank[at];

@@ -1,5 +1,6 @@
 // What every call of the bank asks first: of the pool, of the piston, and of all that the bank names.
 ghost use mathlib.Core.Path.{_≡_};
+ghost use Rattle.bank.specs.Asks.{Asks, ordering};
 ghost use Rattle.bank.specs.Calls as call;
 use paper::Answer;
 
@@ -22,15 +23,34 @@ fn past(piston: u32, next: u8) -> u8
     NO_PISTON
 }
 
-// The first of 1, 2, 10 and 12 that refuses; 0 where none does. The pool is read once for all of it.
-pub fn refusal(pool: &[u8], bank: &[u32; 32], piston: u32) -> u8
-    ensures { λ r. ⌜ r ≡ call.refusal (now (pool .entry)) (now (bank .entry)) piston ⌝ }
+// 12 in its place: a piston above 31 is told first.
+fn ordered(piston: u32, why: u8) -> u8
+    ensures { λ r. ⌜ r ≡ ordering piston why ⌝ }
 {
-    let Answer::Refused(why) = pool::ask_all(pool, bank) else {
-        return past(piston, 0);
-    };
     if why == paper::NOT_HELD {
         return past(piston, NOT_NAMED);
     }
     why
+}
+
+// What is asked of the pool for a call, at one reading: the first of 1, 2, 10 and 12 that refuses, 0 where none does; and the bytes of the
+// payload that the piston names, 0 where it is empty.
+pub struct Told {
+    pub why: u8,
+    pub long: u32,
+}
+
+pub fn asked(pool: &[u8], bank: &[u32; 32], piston: u32) -> Told
+    ensures { λ r. ⌜ Asks (now (pool .entry)) (now (bank .entry)) piston r ⌝ }
+{
+    match pool::ask_all(pool, bank, piston) {
+        Answer::Done(long) => Told {
+            why: past(piston, 0),
+            long,
+        },
+        Answer::Refused(why) => Told {
+            why: ordered(piston, why),
+            long: 0,
+        },
+    }
 }

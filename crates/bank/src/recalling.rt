@@ -31,20 +31,21 @@ fn nothing(pool: &[u8], number: u8) -> Place
 pub fn find(pool: &[u8], bank: &[u32; 32], piston: u32) -> Place
     ensures { λ r. ⌜ Finds (now (pool .entry)) (now (bank .entry)) piston r ⌝ }
 {
-    let why = naming::refusal(pool, bank, piston);
-    if why != 0 {
-        return nothing(pool, why);
+    let asked = naming::asked(pool, bank, piston);
+    if asked.why != 0 {
+        return nothing(pool, asked.why);
     }
     let at = piston as usize;
     let offset = bank[at];
     if offset == 0 {
         return nothing(pool, 0);
     }
-    let size = records::record_in(pool::lend(pool, offset));
+    let from = offset as usize;
+    let end = from + asked.long as usize;
+    let size = records::record_in(&pool[from..end]);
     if size == 0 {
         return nothing(pool, naming::NOT_NAMED);
     }
-    let from = offset as usize;
     Place {
         number: 0,
         from,

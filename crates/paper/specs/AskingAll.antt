@@ -20,6 +20,10 @@ module _ (h : ℕ → Bool) where
   eachOnce [] = true
   eachOnce (o ∷ os) = if= o 0 (eachOnce os) (if= (count o os) 0 (when (h o) (eachOnce os) false) false)
 
+-- what is told of the one that is meant: of 0 nothing
+unfoldable pub askOne : State → ℕ → Answer
+askOne s o = if= o 0 (Done 0) (ask s o)
+
 -- each is the offset of a held payload
 unfoldable pub allHeld : State → List ℕ → Bool
 allHeld s offsets = eachOnce (λ o. isDone (ask s o)) offsets

@@ -3,7 +3,7 @@
 use mathlib.Core.Path.{_≡_}
 use mathlib.Core.List.{List}
 use Prim.Native.Nat.{ℕ, _+_, _-_}
-use lib.ListN.{length}
+use lib.ListN.{getD, length}
 use Rattle.words.specs.Choice.{if=, when}
 use Rattle.paper.specs.declared.Answer.{Answer}
 use Rattle.paper.specs.declared.Answer.the-variants.{Done, Refused}
@@ -19,7 +19,7 @@ use Rattle.paper.specs.Sound.{Sound}
 use Rattle.paper.specs.Fresh.{fresh}
 use Rattle.paper.specs.Granting.{Result, take}
 use Rattle.paper.specs.GivingBack.{ask, giveBack}
-use Rattle.paper.specs.AskingAll.{allHeld}
+use Rattle.paper.specs.AskingAll.{allHeld, askOne}
 use Rattle.paper.specs.LookingUp.{lookUp, byOffset}
 use Rattle.paper.specs.Counting.{heldOne, figures, classCounters}
 
@@ -68,9 +68,9 @@ giveBackCall r bs offset = byReading r (unchanged bs) (λ s. leaves (giveBack s 
 abbrev pub askCall : Reading → ℕ → Answer
 askCall r offset = byReading r Refused (λ s. ask s offset)
 
--- about a list of offsets: refused as asking about one of them would be, also where one stands there twice
-abbrev pub askAllCall : Reading → List ℕ → List ℕ → Answer
-askAllCall r bs offsets = byReading r Refused (λ s. when (allHeld s offsets) (Done (length bs)) (Refused not-held))
+-- about the offset at a place of a list, 0 past its end: refused as asking about any of them would be, also where one stands there twice
+abbrev pub askAllCall : Reading → List ℕ → ℕ → Answer
+askAllCall r offsets place = byReading r Refused (λ s. when (allHeld s offsets) (askOne s (getD offsets place 0)) (Refused not-held))
 
 -- "A refused lend returns the empty part at the pool's end.": where the part starts and where it ends
 abbrev pub lendFrom : Reading → List ℕ → ℕ → ℕ

@@ -32,8 +32,8 @@ module _ (bs : List ℕ) where
   pub ask-determined : (offset : ℕ) (r r' : Answer) → r ≡ ask bs offset → r' ≡ ask bs offset → r ≡ r'
   ask-determined offset = same-answer (ask bs offset)
 
-  pub ask-all-determined : (offsets : List ℕ) (r r' : Answer) → r ≡ askAll bs offsets → r' ≡ askAll bs offsets → r ≡ r'
-  ask-all-determined offsets = same-answer (askAll bs offsets)
+  pub ask-all-determined : (offsets : List ℕ) (place : ℕ) (r r' : Answer) → r ≡ askAll bs offsets place → r' ≡ askAll bs offsets place → r ≡ r'
+  ask-all-determined offsets place = same-answer (askAll bs offsets place)
 
   pub figures-determined : (r r' : Tally) → r ≡ figures bs → r' ≡ figures bs → r ≡ r'
   figures-determined = same-answer (figures bs)

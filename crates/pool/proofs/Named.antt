@@ -1,5 +1,5 @@
 -- Asking about a list of offsets, in the words of asking about one: it is done exactly if the pool is accepted, each offset but 0 is that of a
--- held payload, and none of them stands in the list at two places.
+-- held payload, and none of them stands in the list at two places; and then it tells what asking tells of the one that is meant.
 use mathlib.Core.Bool.{Bool, true, false}
 use mathlib.Core.List.{List, [], _∷_}
 use mathlib.Core.Logic.{_≢_, _⊎_, inl, inr}
@@ -7,11 +7,11 @@ use mathlib.Core.Path.{_≡_, refl, ap, _∙_, sym}
 use Prim.Native.Nat.{ℕ, zero, suc}
 use native.Mathlib.Omega.{arith}
 use lib.ListN.{getD, length}
-use Rattle.words.specs.Choice.{by=, if=-no, if=-yes, when, when-yes}
+use Rattle.words.specs.Choice.{by=, if=, if=-no, if=-yes, when, when-no, when-yes}
 use Rattle.words.specs.Words.{Bytes}
 use Rattle.paper.proofs.runs.Asking.{ask-done}
 use Rattle.paper.specs.Answers.{not-allowed, not-held, not-sound}
-use Rattle.paper.specs.AskingAll.{allHeld, eachOnce, isDone}
+use Rattle.paper.specs.AskingAll.{allHeld, askOne, eachOnce, isDone}
 use Rattle.paper.specs.Bins.{count}
 use Rattle.paper.specs.Calls.{Reading, Reads, misfit, broken, sound, askCall, askAllCall, inspectCall}
 use Rattle.paper.specs.declared.Answer.{Answer}
@@ -112,37 +112,54 @@ inspect-value bs v e = go (read bs) e
     go broken f = absurd (let z : _≡_ {A = ℕ} 0 1 = cc in omega arith)
     go (sound s) f = refl
 
+done-is : (a : Answer) → isDone a ≡ true → (v : ℕ) × (a ≡ Done v)
+done-is (Done v) e = (v, refl)
+done-is (Refused k) e = absurd (no-both e)
+
+-- what is told of the one that is meant
+abbrev pub told : List ℕ → ℕ → Answer
+told bs o = if= o 0 (Done 0) (ask bs o)
+
 module _ (bs offsets : List ℕ) where
-  -- 1 and 2 are inspection's
-  pub ask-all-refused : (k : ℕ) → inspect bs ≡ Refused k → askAll bs offsets ≡ Refused k
-  unfolding inspect askAll
-  ask-all-refused k e = go (read bs) e
-    where
-      go : (x : Reading) → inspectCall x bs ≡ Refused k → askAllCall x bs offsets ≡ Refused k
-      go misfit f = f
-      go broken f = f
-      go (sound s) f = absurd (let z : _≡_ {A = ℕ} 0 1 = cc in omega arith)
+  -- whether the list names each once, of those that asking finds
+  abbrev named : Bool
+  named = eachOnce (λ o. isDone (ask bs o)) offsets
 
-  -- else it goes by what asking says of each
-  pub ask-all-is : (v : ℕ) → inspect bs ≡ Done v
-      → askAll bs offsets ≡ when (eachOnce (λ o. isDone (ask bs o)) offsets) (Done (length bs)) (Refused not-held)
-  unfolding inspect askAll ask allHeld
-  ask-all-is v e = go (read bs) e
-    where
-      go : (x : Reading) → inspectCall x bs ≡ Done v
-          → askAllCall x bs offsets ≡ when (eachOnce (λ o. isDone (askCall x o)) offsets) (Done (length bs)) (Refused not-held)
-      go misfit f = absurd (let z : _≡_ {A = ℕ} 0 1 = cc in omega arith)
-      go broken f = absurd (let z : _≡_ {A = ℕ} 0 1 = cc in omega arith)
-      go (sound s) f = refl
+  -- then the one that is meant is told
+  named-told : named ≡ true → (place : ℕ) → (w : ℕ) × (told bs (getD offsets place 0) ≡ Done w)
+  named-told e place =
+      by= (getD offsets place 0) 0 (λ z. (0, if=-yes _ 0 _ _ z))
+      (λ n. let d = done-is (ask bs (getD offsets place 0)) (each-once (λ o. isDone (ask bs o)) offsets e .had place n) in
+      (d .0, if=-no _ 0 _ _ n ∙ d .1))
 
-  pub ask-all-either : (v : ℕ) → inspect bs ≡ Done v → (askAll bs offsets ≡ Done (length bs)) ⊎ (askAll bs offsets ≡ Refused not-held)
-  unfolding when
-  ask-all-either v e = go (eachOnce (λ o. isDone (ask bs o)) offsets) (ask-all-is v e)
-    where
-      go : (b : Bool) → askAll bs offsets ≡ when b (Done (length bs)) (Refused not-held)
-          → (askAll bs offsets ≡ Done (length bs)) ⊎ (askAll bs offsets ≡ Refused not-held)
-      go true f = inl f
-      go false f = inr f
+  module _ (place : ℕ) where
+    -- 1 and 2 are inspection's
+    pub ask-all-refused : (k : ℕ) → inspect bs ≡ Refused k → askAll bs offsets place ≡ Refused k
+    unfolding inspect askAll
+    ask-all-refused k e = go (read bs) e
+      where
+        go : (x : Reading) → inspectCall x bs ≡ Refused k → askAllCall x offsets place ≡ Refused k
+        go misfit f = f
+        go broken f = f
+        go (sound s) f = absurd (let z : _≡_ {A = ℕ} 0 1 = cc in omega arith)
+
+    -- else it goes by what asking says of each
+    ask-all-is : (v : ℕ) → inspect bs ≡ Done v → askAll bs offsets place ≡ when named (told bs (getD offsets place 0)) (Refused not-held)
+    unfolding inspect askAll ask allHeld askOne
+    ask-all-is v e = go (read bs) e
+      where
+        go : (x : Reading) → inspectCall x bs ≡ Done v → askAllCall x offsets place
+            ≡ when (eachOnce (λ o. isDone (askCall x o)) offsets) (if= (getD offsets place 0) 0 (Done 0) (askCall x (getD offsets place 0))) (Refused not-held)
+        go misfit f = absurd (let z : _≡_ {A = ℕ} 0 1 = cc in omega arith)
+        go broken f = absurd (let z : _≡_ {A = ℕ} 0 1 = cc in omega arith)
+        go (sound s) f = refl
+
+    pub ask-all-either : (v : ℕ) → inspect bs ≡ Done v → ((w : ℕ) × (askAll bs offsets place ≡ Done w)) ⊎ (askAll bs offsets place ≡ Refused not-held)
+    ask-all-either v e = go named refl
+      where
+        go : (b : Bool) → named ≡ b → ((w : ℕ) × (askAll bs offsets place ≡ Done w)) ⊎ (askAll bs offsets place ≡ Refused not-held)
+        go true f = let t = named-told f place in inl (t .0, ask-all-is v e ∙ when-yes named _ _ f ∙ t .1)
+        go false f = inr (ask-all-is v e ∙ when-no named _ _ f)
 
 -- ---- in the words of what is held
 
@@ -165,36 +182,43 @@ asked-held bs bytes o v e = go (read bs) (reads bs bytes) e
         let S = reads-stands bs s r in
         (payloadOf s bs o, by-held bs o bytes s r (omega (arith, ask-done s (S .well-formed) o v f .0)))
 
-done-is : (a : Answer) → isDone a ≡ true → (v : ℕ) × (a ≡ Done v)
-done-is (Done v) e = (v, refl)
-done-is (Refused k) e = absurd (no-both e)
-
 module _ (bs offsets : List ℕ) where
-  pub names-asked : Accepted bs → Names bs offsets → askAll bs offsets ≡ Done (length bs)
-  names-asked A N =
-      ask-all-is bs offsets _ (A .inspected)
-      ∙ when-yes _ _ _
-      (once-each (λ o. isDone (ask bs o)) offsets
-      (record { had = λ i n. ap isDone (N .held i n .1 .asked); apart = N .apart }))
+  pub names-asked : Accepted bs → Names bs offsets → (place : ℕ) → (w : ℕ) × (askAll bs offsets place ≡ Done w)
+  names-asked A N place =
+      let e : named bs offsets ≡ true =
+      once-each (λ o. isDone (ask bs o)) offsets (record { had = λ i n. ap isDone (N .held i n .1 .asked); apart = N .apart }) in
+      let t = named-told bs offsets e place in
+      (t .0, ask-all-is bs offsets place _ (A .inspected) ∙ when-yes (named bs offsets) _ _ e ∙ t .1)
 
-  pub asked-accepted : Bytes bs → (v : ℕ) → askAll bs offsets ≡ Done v → Accepted bs
-  asked-accepted bytes v e = go (inspect bs) refl
-    where
-      go : (a : Answer) → inspect bs ≡ a → Accepted bs
-      go (Refused k) f = absurd (let g : Refused k ≡ Done v = sym (ask-all-refused bs offsets k f) ∙ e in let z : _≡_ {A = ℕ} 0 1 = cc in omega arith)
-      go (Done w) f = record { bytes = bytes; inspected = inspect-value bs w f }
+  module _ (place v : ℕ) (e : askAll bs offsets place ≡ Done v) where
+    inspected : inspect bs ≡ Done (length bs)
+    inspected = go (inspect bs) refl
+      where
+        go : (a : Answer) → inspect bs ≡ a → inspect bs ≡ Done (length bs)
+        go (Refused k) f =
+            absurd (let g : Refused k ≡ Done v = sym (ask-all-refused bs offsets place k f) ∙ e in let z : _≡_ {A = ℕ} 0 1 = cc in omega arith)
+        go (Done w) f = inspect-value bs w f
 
-  pub asked-names : Bytes bs → (v : ℕ) → askAll bs offsets ≡ Done v → Names bs offsets
-  unfolding when
-  asked-names bytes v e =
-      let A = asked-accepted bytes v e in
-      let r = each-once (λ o. isDone (ask bs o)) offsets (yes-each (eachOnce (λ o. isDone (ask bs o)) offsets) refl (sym (ask-all-is bs offsets _ (A .inspected)) ∙ e)) in
-      record {
-        held = λ i n. let d = done-is (ask bs (getD offsets i 0)) (r .had i n) in asked-held bs bytes (getD offsets i 0) (d .0) (d .1);
-        apart = r .apart;
-      }
-    where
-      yes-each : (b : Bool) → eachOnce (λ o. isDone (ask bs o)) offsets ≡ b → when b (Done (length bs)) (Refused not-held) ≡ Done v
-          → eachOnce (λ o. isDone (ask bs o)) offsets ≡ true
-      yes-each true f g = f
-      yes-each false f g = absurd (let z : _≡_ {A = ℕ} 0 1 = cc in omega arith)
+    is-named : named bs offsets ≡ true
+    is-named = go (named bs offsets) refl
+      where
+        go : (b : Bool) → named bs offsets ≡ b → named bs offsets ≡ true
+        go true f = f
+        go false f =
+            let g : Refused not-held ≡ Done v = sym (ask-all-is bs offsets place _ inspected ∙ when-no (named bs offsets) _ _ f) ∙ e in
+            absurd (let z : _≡_ {A = ℕ} 0 1 = cc in omega arith)
+
+    pub asked-accepted : Bytes bs → Accepted bs
+    asked-accepted bytes = record { bytes = bytes; inspected = inspected }
+
+    pub asked-names : Bytes bs → Names bs offsets
+    asked-names bytes =
+        let r = each-once (λ o. isDone (ask bs o)) offsets is-named in
+        record {
+          held = λ i n. let d = done-is (ask bs (getD offsets i 0)) (r .had i n) in asked-held bs bytes (getD offsets i 0) (d .0) (d .1);
+          apart = r .apart;
+        }
+
+    -- and the one that is meant is told
+    pub asked-told : told bs (getD offsets place 0) ≡ Done v
+    asked-told = sym (ask-all-is bs offsets place _ inspected ∙ when-yes (named bs offsets) _ _ is-named) ∙ e

@@ -27,7 +27,8 @@ use Rattle.reading.proofs.Asked.{read-sound}
 pub data Call : Type 0 where
   lays inspects : Call
   takes gives asks : ℕ → Call
-  asksAll counts : List ℕ → Call
+  asksAll : List ℕ → ℕ → Call
+  counts : List ℕ → Call
 
 -- what the call is lent for writing: the pool, or its list of counters; a call that only reads leaves the pool as it is
 abbrev pub lent : List ℕ → Call → List ℕ
@@ -37,7 +38,7 @@ lent bs inspects = bs
 lent bs (takes size) = bs
 lent bs (gives offset) = bs
 lent bs (asks offset) = bs
-lent bs (asksAll offsets) = bs
+lent bs (asksAll offsets place) = bs
 
 -- what it answers, and what was lent afterwards
 abbrev pub outcome : List ℕ → Call → Out
@@ -46,7 +47,7 @@ outcome bs inspects = out (inspect bs) bs
 outcome bs (takes size) = take bs size
 outcome bs (gives offset) = giveBack bs offset
 outcome bs (asks offset) = out (ask bs offset) bs
-outcome bs (asksAll offsets) = out (askAll bs offsets) bs
+outcome bs (asksAll offsets place) = out (askAll bs offsets place) bs
 outcome bs (counts cs) = classCount bs cs
 
 -- an outcome that is refused changes nothing
@@ -93,7 +94,7 @@ stays bs inspects = λ k e. refl
 stays bs (takes size) = takes-unchanged bs size (read bs) refl
 stays bs (gives offset) = gives-unchanged bs offset (read bs) refl
 stays bs (asks offset) = λ k e. refl
-stays bs (asksAll offsets) = λ k e. refl
+stays bs (asksAll offsets place) = λ k e. refl
 stays bs (counts cs) = counts-unchanged cs (read bs)
 
 -- "A refusal returns 0 beside its number and changes nothing."

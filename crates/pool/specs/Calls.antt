@@ -25,9 +25,9 @@ giveBack bs offset = giveBackCall (read bs) bs offset
 unfoldable pub ask : List ℕ → ℕ → Answer
 ask bs offset = askCall (read bs) offset
 
--- about a list of offsets, at one reading
-unfoldable pub askAll : List ℕ → List ℕ → Answer
-askAll bs offsets = askAllCall (read bs) bs offsets
+-- about the offset at a place of a list, which is asked as a whole at one reading
+unfoldable pub askAll : List ℕ → List ℕ → ℕ → Answer
+askAll bs offsets place = askAllCall (read bs) offsets place
 
 -- the part that is lent: where it starts and ends, and its bytes
 unfoldable pub partFrom : List ℕ → ℕ → ℕ

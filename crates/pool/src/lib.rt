@@ -1,6 +1,7 @@
 // The public calls on a pool of lent bytes. Every call but laying out reads the pool itself first, and serves it if it is sound; a
 // refusal changes no byte. None has a precondition: each ends with one of the paper's answers on every pool of bytes, size or
 // offset. Each contract is an equation with the paper's own definition (crates/paper/specs/Calls.antt).
+mod lists;
 mod parts;
 
 ghost use mathlib.Core.Path.{_≡_};
@@ -65,9 +66,10 @@ pub fn ask(pool: &[u8], offset: u32) -> Answer
     serving::ask(pool, offset)
 }
 
-// Whether every offset of the list that is not 0 is that of a held payload, and stands in the list once; answers the pool's length.
-pub fn ask_all(pool: &[u8], offsets: &[u32]) -> Answer
-    ensures { λ r. ⌜ r ≡ call.askAll (now (pool .entry)) (now (offsets .entry)) ⌝ }
+// The bytes of the payload whose offset stands at `place` of the list, 0 where none does. The whole list is asked, at one reading: each of
+// its offsets but 0 must be that of a held payload, and stand there once.
+pub fn ask_all(pool: &[u8], offsets: &[u32], place: u32) -> Answer
+    ensures { λ r. ⌜ r ≡ call.askAll (now (pool .entry)) (now (offsets .entry)) place ⌝ }
 {
     let why = reading::refusal(pool);
     if why != 0 {
@@ -76,7 +78,11 @@ pub fn ask_all(pool: &[u8], offsets: &[u32]) -> Answer
     if !serving::all_held(pool, offsets) {
         return Answer::Refused(paper::NOT_HELD);
     }
-    Answer::Done(pool.len() as u32)
+    let offset = lists::number_at(offsets, place);
+    if offset == 0 {
+        return Answer::Done(0);
+    }
+    serving::ask(pool, offset)
 }
 
 // The payload at `offset`, for reading; the empty part at the pool's end where the call is refused.
