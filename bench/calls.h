@@ -1,11 +1,14 @@
-// The calls of one of the two libraries, by one set of names: of the plain pool, or with -DPROVED of the proved one.
+// The calls of one of the two libraries, by one set of names: of the plain pool and bank, or with -DPROVED of the proved ones.
 #ifndef CALLS_H
 #define CALLS_H
 #ifdef PROVED
 #include "../include/pool.h"
+#include "../include/bank.h"
 #define CALL(name) pool_##name
+#define BANK(name) bank_##name
 #else
 #include "plain.h"
 #define CALL(name) plain_##name
+#define BANK(name) plain_bank_##name
 #endif
 #endif

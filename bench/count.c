@@ -100,6 +100,41 @@ static void countings(void) {
     }
 }
 
+// The bank's calls, each beside an inspection of the pool that it meets.
+static void one_bank_call(const struct console *console, const struct bank_call *call) {
+    static struct pistons before, after[2];
+    char more[100];
+    set_pistons(&before, console, call);
+    uint32_t piston = before.piston;
+    uint8_t kind = kind_of(piston);
+    const uint8_t *body = body_of(piston);
+    size_t length = length_of(piston);
+    uint64_t answers[2];
+    for (int l = 0; l < 2; l++) {
+        const struct library *library = libraries[l];
+        struct pistons *p = &after[l];
+        memcpy(p, &before, sizeof before);
+        COUNTED(library->inspect(p->pool, p->n));
+        snprintf(more, sizeof more, "%s | %zu | %s inspection", console->name, console->n, library->name);
+        done("bank", call->name, more, 1);
+        switch (call->kind) {
+        case SET: COUNTED(answers[l] = library->bank_set(p->pool, p->n, p->bank, piston, kind, body, length)); break;
+        case CLEAR: COUNTED(answers[l] = library->bank_clear(p->pool, p->n, p->bank, piston)); break;
+        case RECALL: COUNTED(answers[l] = library->bank_recall(p->pool, p->n, p->bank, piston)); break;
+        }
+        snprintf(more, sizeof more, "%s | %zu | %s", console->name, console->n, library->name);
+        done("bank", call->name, more, 1);
+    }
+    if (answers[0] >> 32 != call->refusal || answers[0] != answers[1] || memcmp(&after[0], &after[1], sizeof before))
+        abort();
+}
+
+static void banks(void) {
+    for (int c = 0; c < CONSOLES; c++)
+        for (int b = 0; b < (c == 0 ? BANK_CALLS : MAIN_BANK_CALLS); b++)
+            one_bank_call(&consoles[c], &bank_calls[b]);
+}
+
 static void tape(void) {
     for (int l = 0; l < 2; l++) {
         memset(pool, 0, sizeof pool);
@@ -228,6 +263,7 @@ void count(void) {
     for (int o = 0; o < OPERATIONS; o++)
         one_operation(&operations[o]);
     countings();
+    banks();
     tape();
     served();
 }

@@ -2,6 +2,8 @@
 #ifndef MEASURE_H
 #define MEASURE_H
 #include "../include/pool.h"
+#include "../include/bank.h"
+#include "banks.h"
 #include "firstfit.h"
 #include "plain.h"
 #include "shapes.h"
@@ -15,6 +17,9 @@ struct library {
     uint64_t (*ask)(const uint8_t *, size_t, uint32_t);
     uint64_t (*figures)(const uint8_t *, size_t, uint32_t *, size_t);
     uint64_t (*class_count)(const uint8_t *, size_t, uint32_t *, size_t);
+    uint64_t (*bank_set)(uint8_t *, size_t, uint32_t *, uint32_t, uint8_t, const uint8_t *, size_t);
+    uint64_t (*bank_clear)(uint8_t *, size_t, uint32_t *, uint32_t);
+    uint64_t (*bank_recall)(const uint8_t *, size_t, const uint32_t *, uint32_t);
 };
 extern const struct library proved, plain;
 extern const struct library *const libraries[2];

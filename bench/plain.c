@@ -1,4 +1,4 @@
-// The pool in plain C. The bytes are drawn in crates/paper/src/layout.rt.
+// The pool and the piston bank in plain C. The bytes are drawn in crates/paper/src/layout.rt.
 //
 // Inspection believes nothing before it was tested, so the calls after it read and write without a test of their own.
 #include "plain.h"
@@ -12,7 +12,8 @@
 enum { FREE_WORD = 0, FALSE_WORD = 8, START = 16, END = 24, SMALL_BINS = 24, FALSE_BLOCK = 96, BLOCKS = 168 };
 enum { SMALL_NEXT = 4, PREVIOUS = 4, NEXT = 8, LEVEL = 12, CHAIN = 64, LARGE = 72 };
 enum { NOT_ALLOWED = 1, NOT_SOUND, NO_SIZE, NO_ROOM, NOT_HELD, LIST_LENGTH };
-enum { HELD = 1, P = 2, LEAST_POOL = 176, GREATEST_POOL = 65536, CLASSES = 53 };
+enum { NO_PISTON = 10, NO_RECORD, NOT_NAMED };
+enum { HELD = 1, P = 2, LEAST_POOL = 176, GREATEST_POOL = 65536, CLASSES = 53, PISTONS = 32 };
 
 static inline uint32_t word(const uint8_t *pool, uint32_t at) {
     uint32_t v;
@@ -28,10 +29,13 @@ static inline uint64_t refused(uint32_t number) { return (uint64_t)number << 32;
 
 static bool allowed(size_t n) { return n >= LEAST_POOL && n <= GREATEST_POOL && n % 8 == 0; }
 
-// One bit for each 8 bytes: the starts of free blocks that no list has named yet.
+// One bit for each 8 bytes: the starts of blocks that no list has named yet. Inspection marks the free blocks, and asking about a list of
+// offsets the held ones.
 struct marks {
     uint64_t bits[GREATEST_POOL / 8 / 64];
 };
+
+static inline void no_marks(struct marks *m, size_t n) { memset(m, 0, (n + 511) / 512 * 8); }
 
 static inline void mark(struct marks *m, uint32_t q) { m->bits[q / 512] |= (uint64_t)1 << q / 8 % 64; }
 
@@ -157,7 +161,7 @@ static bool sound(const uint8_t *pool, size_t n) {
         return false;
     uint32_t start = word(pool, START), end = word(pool, END);
     struct marks m;
-    memset(&m, 0, (n + 511) / 512 * 8);
+    no_marks(&m, n);
     struct seen seen = {0, 0};
     if (!scan_large(pool, &m, start, &seen) || !scan_small(pool, &m, end, n, &seen))
         return false;
@@ -420,6 +424,31 @@ uint64_t plain_ask(const uint8_t *pool, size_t n, uint32_t offset) {
     return z ? z - 4 : refused(NOT_HELD);
 }
 
+static void mark_held(const uint8_t *pool, struct marks *m, uint32_t from, uint32_t to) {
+    for (uint32_t w, p = from; p < to; p += w / 4) {
+        w = word(pool, p);
+        if (w & HELD)
+            mark(m, p);
+    }
+}
+
+// The bytes of the payload whose offset stands at a place of the list, 0 where none does; refused unless each offset that is not 0 is that of a
+// held payload, and stands in the list once. A start that was marked has a head to be believed.
+uint64_t plain_ask_all(const uint8_t *pool, size_t n, const uint32_t *offsets, size_t count, uint32_t place) {
+    uint32_t why = refusal(pool, n);
+    if (why)
+        return refused(why);
+    struct marks m;
+    no_marks(&m, n);
+    mark_held(pool, &m, BLOCKS, word(pool, START));
+    mark_held(pool, &m, word(pool, END), n);
+    for (size_t i = 0; i < count; i++)
+        if (offsets[i] != 0 && !unmark(&m, n, offsets[i] - 4))
+            return refused(NOT_HELD);
+    uint32_t offset = place < count ? offsets[place] : 0;
+    return offset ? word(pool, offset - 4) / 4 - 4 : 0;
+}
+
 // Figures: held blocks, held bytes, free small, free large, remainder, free word, largest grant.
 static void tally(const uint8_t *pool, uint32_t from, uint32_t to, uint32_t *figures) {
     for (uint32_t w, p = from; p < to; p += w / 4) {
@@ -481,4 +510,57 @@ uint64_t plain_class_count(const uint8_t *pool, size_t n, uint32_t *counts, size
     memset(counts, 0, CLASSES * sizeof *counts);
     uint32_t low = count_run(pool, BLOCKS, word(pool, START), counts);
     return low + count_run(pool, word(pool, END), n, counts);
+}
+
+// ---- the piston bank, which knows no more of the pool than its calls answer
+
+// How many bytes a record has, its byte of kind included: a body of 8, 16 or 32 bytes by its kind. 0 for an unknown kind.
+static uint32_t record_size(uint8_t kind) { return kind >= 1 && kind <= 3 ? 1 + (4u << kind) : 0; }
+
+// What is asked for every call: the first of 1, 2, 10 and 12 that refuses, or the bytes of the payload that the piston names, 0 where it is empty.
+static uint64_t bank_asked(const uint8_t *pool, size_t n, const uint32_t *bank, uint32_t piston) {
+    uint64_t asked = plain_ask_all(pool, n, bank, PISTONS, piston);
+    uint32_t why = asked >> 32;
+    if (why && why != NOT_HELD)
+        return asked;
+    return piston >= PISTONS ? refused(NO_PISTON) : why ? refused(NOT_NAMED) : asked;
+}
+
+// The new record is written while the old one is still held, so that with no room the old setting stays.
+uint64_t plain_bank_set(uint8_t *pool, size_t n, uint32_t bank[32], uint32_t piston, uint8_t kind, const uint8_t *body, size_t length) {
+    uint64_t asked = bank_asked(pool, n, bank, piston);
+    if (asked >> 32)
+        return asked;
+    uint32_t size = record_size(kind);
+    if (size == 0 || length != size - 1)
+        return refused(NO_RECORD);
+    uint64_t taken = plain_take(pool, n, size);
+    if (taken >> 32)
+        return taken;
+    uint32_t offset = taken, old = bank[piston];
+    pool[offset] = kind;
+    memcpy(pool + offset + 1, body, length);
+    bank[piston] = offset;
+    if (old != 0)
+        plain_give_back(pool, n, old);
+    return n;
+}
+
+uint64_t plain_bank_clear(uint8_t *pool, size_t n, uint32_t bank[32], uint32_t piston) {
+    uint64_t asked = bank_asked(pool, n, bank, piston);
+    if (asked >> 32)
+        return asked;
+    uint32_t old = bank[piston];
+    bank[piston] = 0;
+    if (old != 0)
+        plain_give_back(pool, n, old);
+    return n;
+}
+
+uint64_t plain_bank_recall(const uint8_t *pool, size_t n, const uint32_t bank[32], uint32_t piston) {
+    uint64_t asked = bank_asked(pool, n, bank, piston);
+    if (asked == 0 || asked >> 32)
+        return asked;
+    uint32_t size = record_size(pool[bank[piston]]);
+    return size == 0 || size > asked ? refused(NOT_NAMED) : size;
 }

@@ -5,10 +5,11 @@
 #include <stdlib.h>
 #include <string.h>
 
-enum { LONGEST = 32768, ROOM = 65536, LIST = 64 };
+enum { LONGEST = 32768, ROOM = 65536, LIST = 64, BODY = 64, PISTONS = 32 };
 
 static uint8_t pool[ROOM];
 static size_t n;
+static uint32_t bank[PISTONS];
 
 static unsigned number_of(uint64_t answer) { return answer >> 32; }
 
@@ -91,6 +92,36 @@ static void hex(const uint8_t *from, size_t count) {
         printf("%02x", from[i]);
 }
 
+static int given_bank(void) {
+    for (int i = 0; i < PISTONS; i++)
+        if (!number(&bank[i]))
+            return 0;
+    printf("B 0 %u", PISTONS);
+    return 1;
+}
+
+static void show_bank(void) {
+    printf("V 0 %u", PISTONS);
+    for (int i = 0; i < PISTONS; i++)
+        printf(" %u", bank[i]);
+}
+
+static int set(void) {
+    uint32_t piston, k;
+    uint8_t kind, body[BODY];
+    if (!number(&piston) || !bytes(&kind, 1) || !number(&k) || k > BODY || !bytes(body, k))
+        return 0;
+    line('K', BANK(set)(pool, n, bank, piston, kind, body, k));
+    return 1;
+}
+
+// The record stands where the bank says; of an empty piston and where recall is refused there is none.
+static void recall(uint32_t piston) {
+    uint64_t answer = BANK(recall)(pool, n, bank, piston);
+    line('R', answer);
+    hex(pool + (value_of(answer) ? bank[piston] : 0), value_of(answer));
+}
+
 static int command(int letter) {
     static uint8_t body[ROOM];
     uint32_t v, k = 0, counts[LIST];
@@ -108,6 +139,9 @@ static int command(int letter) {
         printf("D 0 %zu", n);
         hex(pool, n);
         return 1;
+    case 'B': return given_bank();
+    case 'V': show_bank(); return 1;
+    case 'K': return set();
     case 'C':
         if (!number(&k) || k > LIST)
             return 0;
@@ -118,12 +152,14 @@ static int command(int letter) {
             printf(" %u", counts[i]);
         return 1;
     }
-    if (letter == 0 || !strchr("TGAPW", letter) || !number(&v))
+    if (letter == 0 || !strchr("TGAPWQR", letter) || !number(&v))
         return 0;
     switch (letter) {
     case 'T': line('T', CALL(take)(pool, n, v)); return 1;
     case 'G': line('G', CALL(give_back)(pool, n, v)); return 1;
     case 'A': line('A', CALL(ask)(pool, n, v)); return 1;
+    case 'Q': line('Q', BANK(clear)(pool, n, bank, v)); return 1;
+    case 'R': recall(v); return 1;
     case 'W':
         if (!number(&k) || k > ROOM || !bytes(body, k))
             return 0;

@@ -3,6 +3,8 @@
     table.py FOLDER DOCS   FOLDER has the files that bench/run leaves: machine, text, stack, time (empty where there are none), and
                            the counts: valgrind's dumps, or the lines of steps.
                            In DOCS/BENCH.md only what stands between the two marker lines is replaced.
+
+Ends with status 1, after it has written both, where a call of the piston bank costs more than it may.
 """
 
 import glob
@@ -11,13 +13,15 @@ import os
 import sys
 
 GOAL = 1.25
+# What the bank's calls may cost at most on this pool with all its pistons set, in inspections of it.
+CONSOLE, MOST = ("mixed console", "65536"), {"set": 5, "recall": 3}
 BEGIN, END = "<!-- measured: begin -->", "<!-- measured: end -->"
 
 
-def as_text(value):
+def as_text(value, goal=GOAL):
     """A ratio with two digits behind the point; with as many as it takes to see on which side of the goal it is."""
     digits = 2
-    while digits < 6 and (float(f"{value:.{digits}f}") <= GOAL) != (value <= GOAL):
+    while digits < 6 and (float(f"{value:.{digits}f}") <= goal) != (value <= goal):
         digits += 1
     return f"{value:.{digits}f}"
 
@@ -121,6 +125,37 @@ class Report:
         head = ["Call", "Proved", "Plain C", "Ratio", "Proved, less inspection", "Plain C, less inspection", "Ratio"]
         return table(head, rows)
 
+    def consoles(self):
+        return unique(key[2:4] for key in self.count if key[0] == "bank")
+
+    def of_bank(self, name, console, who):
+        return self.count[("bank", name) + console + (who,)]
+
+    def bank_calls(self, console):
+        """For each call its name, what it costs by both libraries, and what it costs in inspections of the same pool."""
+        for name in unique(key[1] for key in self.count if key[0] == "bank" and key[2:4] == console):
+            ours, theirs, inspection = (self.of_bank(name, console, who) for who in ("proved", "plain", "proved inspection"))
+            yield name, ours, theirs, ours / inspection
+
+    def bank(self):
+        rows = []
+        for name, ours, theirs, inspections in self.bank_calls(CONSOLE):
+            rows.append([name, number(ours), as_text(inspections), number(theirs), self.bar("bank: " + name, ours, theirs)])
+        return table(["Call", "Proved", "In inspections", "Plain C", "Ratio"], rows)
+
+    def small_banks(self):
+        rows = []
+        for console in self.consoles():
+            for name, ours, theirs, inspections in self.bank_calls(console) if console != CONSOLE else ():
+                label = f"{console[0]}, {int(console[1]):,} bytes: {name}"
+                rows.append([label, number(ours), as_text(inspections), number(theirs), ratio(ours, theirs)])
+        return table(["Call", "Proved", "In inspections", "Plain C", "Ratio"], rows)
+
+    def dearest(self):
+        """What the dearest set and the dearest recall cost in inspections, and what they may cost."""
+        for call, most in MOST.items():
+            yield call, max(cost for name, *_, cost in self.bank_calls(CONSOLE) if name.startswith(call)), most
+
     def count_keys(self, kind, who):
         keys = [key for key in self.count if key[0] == kind and key[-1] == who]
         return sorted(keys, key=lambda key: (self.shapes.index(key[2]), key[1]))
@@ -152,7 +187,7 @@ class Report:
         return table(["A request", "Proved, less inspection", "Plain C, unchecked", "First fit", "malloc and free"], rows)
 
     def sizes(self):
-        out = table(["Call", "Stack, bytes"], [["`pool_" + name + "`", f"{int(bytes_):,}"] for _, name, bytes_ in self.stack])
+        out = table(["Call", "Stack, bytes"], [[f"`{name}`", f"{int(bytes_):,}"] for _, name, bytes_ in self.stack])
         return out + table(["Code", "Text, bytes"], [[name, f"{int(bytes_):,}"] for name, bytes_ in self.text])
 
     def markdown(self):
@@ -161,6 +196,9 @@ class Report:
         out += ["### Inspection: instructions for a pool of 1,024 bytes", ""] + self.inspection(1024)
         out += ["### Taking and giving back: instructions a call, a pool of 65,536 bytes", ""] + self.operations()
         out += ["### Figures and class count: instructions a call, a pool of 65,536 bytes", ""] + self.countings()
+        out += ["### The piston bank: instructions a call, the mixed console of 65,536 bytes with 32 pistons set", ""] + self.bank()
+        out += [f"A {call} costs {as_text(cost, most)} inspections at most, and may cost {most}." for call, cost, most in self.dearest()]
+        out += ["", "### The piston bank on smaller pools: instructions a call, 32 pistons set", ""] + self.small_banks()
         out += ["### The worked tape: instructions", ""] + self.tape()
         if self.time:
             out += ["### Times with inspection", ""] + self.pairs()
@@ -206,6 +244,9 @@ def main():
     with open(os.path.join(docs, "bench.svg"), "w") as file:
         file.write(report.svg())
     print(measured)
+    dear = [f"a {call} costs {as_text(cost, most)} inspections, and may cost {most}" for call, cost, most in report.dearest() if cost > most]
+    if dear:
+        sys.exit("bench/table.py: " + "; ".join(dear))
 
 
 main()
