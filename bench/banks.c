@@ -1,6 +1,6 @@
 // The pistons are set by the proved library's calls, once: each library then gets a copy, so that both meet the same bytes.
 #include "banks.h"
-#include "bank.h"
+#include "../include/bank.h"
 #include "plain.h"
 #include <stdlib.h>
 #include <string.h>
