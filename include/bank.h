@@ -51,8 +51,8 @@
    2 or 12; or none is, and a block is held that no piston names, which pool_figures counts. Settings that must outlive this are kept in two
    copies of pool and bank that are changed in turn: examples/c/copies.h has it.
 
-   What a call costs: a set some 4 to 5 inspections of the pool, a clear or a recall some 3 to 4 (docs/BENCH.md), and 2.5 KiB of
-   stack. No heap, no global state: any number of banks, several on one pool too. Nothing here locks. */
+   What a call costs: on a large pool a set some 4 inspections of the pool, a clear 3, a recall 2; a little more on a small one
+   (docs/BENCH.md). And 2.5 KiB of stack. No heap, no global state: any number of banks, several on one pool too. Nothing here locks. */
 #ifndef BANK_H
 #define BANK_H
 
