@@ -4,10 +4,14 @@
 #include <stdlib.h>
 #include <string.h>
 
-const struct library proved = {"proved",     pool_lay_out, pool_inspect,     pool_take, pool_give_back, pool_ask,
-                               pool_figures, pool_class_count, bank_set, bank_clear,     bank_recall};
-const struct library plain = {"plain",       plain_lay_out, plain_inspect,     plain_take, plain_give_back, plain_ask,
-                              plain_figures, plain_class_count, plain_bank_set, plain_bank_clear, plain_bank_recall};
+const struct library proved = {
+    "proved", pool_lay_out, pool_inspect, pool_take, pool_give_back, pool_ask, pool_figures, pool_class_count,
+    bank_set, bank_clear, bank_recall,
+};
+const struct library plain = {
+    "plain", plain_lay_out, plain_inspect, plain_take, plain_give_back, plain_ask, plain_figures, plain_class_count,
+    plain_bank_set, plain_bank_clear, plain_bank_recall,
+};
 const struct library *const libraries[2] = {&proved, &plain};
 
 void serve(const struct library *library, uint8_t *pool, const struct call *call) {

@@ -1,5 +1,5 @@
-// The stack that each public call of the proved library uses: it runs on a painted stack of its own, on every shape (the bank's on every
-// console), and the paint that is gone afterwards is counted. What an empty call uses there is taken off.
+// The stack that each public call of the proved library uses: it runs on a painted stack of its own, on every shape (a call of the
+// bank on every console), and the paint that is gone afterwards is counted. What an empty call uses there is taken off.
 #include "measure.h"
 #include <stdio.h>
 #include <string.h>

@@ -126,16 +126,14 @@ class Report:
         return table(head, rows)
 
     def consoles(self):
+        """Name and size of the pools on which the bank's calls are counted; CONSOLE is the first."""
         return unique(key[2:4] for key in self.count if key[0] == "bank")
-
-    def of_bank(self, name, console, who):
-        return self.count[("bank", name) + console + (who,)]
 
     def bank_calls(self, console):
         """For each call its name, what it costs by both libraries, and what it costs in inspections of the same pool."""
         for name in unique(key[1] for key in self.count if key[0] == "bank" and key[2:4] == console):
-            ours, theirs, inspection = (self.of_bank(name, console, who) for who in ("proved", "plain", "proved inspection"))
-            yield name, ours, theirs, ours / inspection
+            get = lambda who: self.count[("bank", name) + console + (who,)]
+            yield name, get("proved"), get("plain"), get("proved") / get("proved inspection")
 
     def bank(self):
         rows = []
@@ -145,8 +143,8 @@ class Report:
 
     def small_banks(self):
         rows = []
-        for console in self.consoles():
-            for name, ours, theirs, inspections in self.bank_calls(console) if console != CONSOLE else ():
+        for console in self.consoles()[1:]:
+            for name, ours, theirs, inspections in self.bank_calls(console):
                 label = f"{console[0]}, {int(console[1]):,} bytes: {name}"
                 rows.append([label, number(ours), as_text(inspections), number(theirs), ratio(ours, theirs)])
         return table(["Call", "Proved", "In inspections", "Plain C", "Ratio"], rows)
@@ -197,7 +195,8 @@ class Report:
         out += ["### Taking and giving back: instructions a call, a pool of 65,536 bytes", ""] + self.operations()
         out += ["### Figures and class count: instructions a call, a pool of 65,536 bytes", ""] + self.countings()
         out += ["### The piston bank: instructions a call, the mixed console of 65,536 bytes with 32 pistons set", ""] + self.bank()
-        out += [f"A {call} costs {as_text(cost, most)} inspections at most, and may cost {most}." for call, cost, most in self.dearest()]
+        for call, cost, most in self.dearest():
+            out.append(f"A {call} costs {as_text(cost, most)} inspections at most, and may cost {most}.")
         out += ["", "### The piston bank on smaller pools: instructions a call, 32 pistons set", ""] + self.small_banks()
         out += ["### The worked tape: instructions", ""] + self.tape()
         if self.time:
@@ -244,7 +243,8 @@ def main():
     with open(os.path.join(docs, "bench.svg"), "w") as file:
         file.write(report.svg())
     print(measured)
-    dear = [f"a {call} costs {as_text(cost, most)} inspections, and may cost {most}" for call, cost, most in report.dearest() if cost > most]
+    dear = [f"a {call} costs {as_text(cost, most)} inspections, and may cost {most}"
+            for call, cost, most in report.dearest() if cost > most]
     if dear:
         sys.exit("bench/table.py: " + "; ".join(dear))
 
