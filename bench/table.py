@@ -196,7 +196,7 @@ class Report:
         out += ["### Figures and class count: instructions a call, a pool of 65,536 bytes", ""] + self.countings()
         out += ["### The piston bank: instructions a call, the mixed console of 65,536 bytes with 32 pistons set", ""] + self.bank()
         for call, cost, most in self.dearest():
-            out.append(f"A {call} costs {as_text(cost, most)} inspections at most, and may cost {most}.")
+            out.append(f"A {call} costs {as_text(cost, most)} inspections, the dearest of these, and may cost {most}.")
         out += ["", "### The piston bank on smaller pools: instructions a call, 32 pistons set", ""] + self.small_banks()
         out += ["### The worked tape: instructions", ""] + self.tape()
         if self.time:
