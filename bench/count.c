@@ -35,7 +35,7 @@ static void inspections(size_t n) {
     char more[50];
     for (int s = 0; s < SHAPES; s++) {
         shapes[s].build(pool, n);
-        for (int l = 0; l < 2; l++) {
+        for (int l = 0; l < LIBRARIES; l++) {
             uint64_t answer;
             COUNTED(answer = libraries[l]->inspect(pool, n));
             if (answer != n)
@@ -60,8 +60,8 @@ static void one_operation(const struct operation *o) {
     char more[100];
     shapes[o->shape].build(image, LARGEST);
     uint32_t argument = o->argument(image, LARGEST);
-    uint64_t answers[2], answer;
-    for (int l = 0; l < 2; l++) {
+    uint64_t answers[LIBRARIES], answer;
+    for (int l = 0; l < LIBRARIES; l++) {
         answers[l] = operate(o, libraries[l], argument);
         snprintf(more, sizeof more, "%s | %s", shapes[o->shape].name, libraries[l]->name);
         done("operation", o->name, more, 1);
@@ -77,8 +77,9 @@ static void one_operation(const struct operation *o) {
         COUNTED(answer = plain_take_unchecked(pool, LARGEST, argument));
     snprintf(more, sizeof more, "%s | plain unchecked", shapes[o->shape].name);
     done("operation", o->name, more, 1);
-    if (answers[0] != answers[1] || answers[0] != answer)
-        abort();
+    for (int l = 0; l < LIBRARIES; l++)
+        if (answers[l] != answer)
+            abort();
 }
 
 // The calls that count, which go along all blocks of the pool.
@@ -87,7 +88,7 @@ static void countings(void) {
     uint32_t list[53];
     for (int s = 0; s < SHAPES; s++) {
         shapes[s].build(pool, LARGEST);
-        for (int l = 0; l < 2; l++) {
+        for (int l = 0; l < LIBRARIES; l++) {
             uint64_t figures, classes;
             snprintf(more, sizeof more, "%s | %s", shapes[s].name, libraries[l]->name);
             COUNTED(figures = libraries[l]->figures(pool, LARGEST, list, 7));
@@ -102,15 +103,15 @@ static void countings(void) {
 
 // The bank's calls, each beside an inspection of the pool that it meets.
 static void one_bank_call(const struct console *console, const struct bank_call *call) {
-    static struct pistons before, after[2];
+    static struct pistons before, after[LIBRARIES];
     char more[100];
     set_pistons(&before, console, call);
     uint32_t piston = before.piston;
     uint8_t kind = kind_of(piston);
     const uint8_t *body = body_of(piston);
     size_t length = length_of(piston);
-    uint64_t answers[2];
-    for (int l = 0; l < 2; l++) {
+    uint64_t answers[LIBRARIES];
+    for (int l = 0; l < LIBRARIES; l++) {
         const struct library *library = libraries[l];
         struct pistons *p = &after[l];
         memcpy(p, &before, sizeof before);
@@ -125,8 +126,9 @@ static void one_bank_call(const struct console *console, const struct bank_call 
         snprintf(more, sizeof more, "%s | %zu | %s", console->name, console->n, library->name);
         done("bank", call->name, more, 1);
     }
-    if (answers[0] >> 32 != call->refusal || answers[0] != answers[1] || memcmp(&after[0], &after[1], sizeof before))
-        abort();
+    for (int l = 0; l < LIBRARIES; l++)
+        if (answers[l] >> 32 != call->refusal || answers[l] != answers[0] || memcmp(&after[l], &after[0], sizeof before))
+            abort();
 }
 
 static void banks(void) {
@@ -136,7 +138,7 @@ static void banks(void) {
 }
 
 static void tape(void) {
-    for (int l = 0; l < 2; l++) {
+    for (int l = 0; l < LIBRARIES; l++) {
         memset(pool, 0, sizeof pool);
         for (int i = 0; i < 13; i++)
             COUNTED(serve(libraries[l], pool, &worked_tape[i]));
@@ -254,7 +256,7 @@ static void served(void) {
 
 void count(void) {
     // a call of each library first, so that the loader's work is done
-    for (int l = 0; l < 2; l++)
+    for (int l = 0; l < LIBRARIES; l++)
         libraries[l]->inspect(pool, libraries[l]->lay_out(pool, LARGEST));
     COUNT_FROM_HERE;
     requests_alone();

@@ -12,7 +12,11 @@ const struct library plain = {
     "plain", plain_lay_out, plain_inspect, plain_take, plain_give_back, plain_ask, plain_figures, plain_class_count,
     plain_bank_set, plain_bank_clear, plain_bank_recall,
 };
-const struct library *const libraries[2] = {&proved, &plain};
+const struct library file = {
+    "file", file_pool_lay_out, file_pool_inspect, file_pool_take, file_pool_give_back, file_pool_ask, file_pool_figures,
+    file_pool_class_count, file_bank_set, file_bank_clear, file_bank_recall,
+};
+const struct library *const libraries[LIBRARIES] = {&proved, &plain, &file};
 
 void serve(const struct library *library, uint8_t *pool, const struct call *call) {
     uint32_t figures[7];

@@ -5,11 +5,10 @@
 #include <stdlib.h>
 #include <string.h>
 
-enum { LONGEST = 32768, ROOM = 65536, LIST = 64, BODY = 64, PISTONS = 32 };
+enum { LONGEST = 32768, ROOM = 65536, LIST = 64 };
 
 static uint8_t pool[ROOM];
 static size_t n;
-static uint32_t bank[PISTONS];
 
 static unsigned number_of(uint64_t answer) { return answer >> 32; }
 
@@ -92,6 +91,12 @@ static void hex(const uint8_t *from, size_t count) {
         printf("%02x", from[i]);
 }
 
+#ifndef POOL_ALONE
+
+enum { BODY = 64, PISTONS = 32 };
+
+static uint32_t bank[PISTONS];
+
 static int given_bank(void) {
     for (int i = 0; i < PISTONS; i++)
         if (!number(&bank[i]))
@@ -122,6 +127,32 @@ static void recall(uint32_t piston) {
     hex(pool + (value_of(answer) ? bank[piston] : 0), value_of(answer));
 }
 
+// The bank's commands; 0 for another letter, and where the body is not whole.
+static int of_bank(int letter) {
+    uint32_t v;
+    switch (letter) {
+    case 'B': return given_bank();
+    case 'V': show_bank(); return 1;
+    case 'K': return set();
+    }
+    if ((letter != 'Q' && letter != 'R') || !number(&v))
+        return 0;
+    if (letter == 'Q')
+        line('Q', BANK(clear)(pool, n, bank, v));
+    else
+        recall(v);
+    return 1;
+}
+
+#else
+
+static int of_bank(int letter) {
+    (void)letter;
+    return 0;
+}
+
+#endif
+
 static int command(int letter) {
     static uint8_t body[ROOM];
     uint32_t v, k = 0, counts[LIST];
@@ -139,9 +170,11 @@ static int command(int letter) {
         printf("D 0 %zu", n);
         hex(pool, n);
         return 1;
-    case 'B': return given_bank();
-    case 'V': show_bank(); return 1;
-    case 'K': return set();
+    case 'B':
+    case 'V':
+    case 'K':
+    case 'Q':
+    case 'R': return of_bank(letter);
     case 'C':
         if (!number(&k) || k > LIST)
             return 0;
@@ -152,14 +185,12 @@ static int command(int letter) {
             printf(" %u", counts[i]);
         return 1;
     }
-    if (letter == 0 || !strchr("TGAPWQR", letter) || !number(&v))
+    if (letter == 0 || !strchr("TGAPW", letter) || !number(&v))
         return 0;
     switch (letter) {
     case 'T': line('T', CALL(take)(pool, n, v)); return 1;
     case 'G': line('G', CALL(give_back)(pool, n, v)); return 1;
     case 'A': line('A', CALL(ask)(pool, n, v)); return 1;
-    case 'Q': line('Q', BANK(clear)(pool, n, bank, v)); return 1;
-    case 'R': recall(v); return 1;
     case 'W':
         if (!number(&k) || k > ROOM || !bytes(body, k))
             return 0;

@@ -9,12 +9,16 @@ Ends with status 1, after it has written both, where a call of the piston bank c
 
 import glob
 import html
+import math
 import os
 import sys
 
 GOAL = 1.25
+# The C file against the proved library.
+FILE_GOAL = 1.15
 # What the bank's calls may cost at most on this pool with all its pistons set, in inspections of it.
 CONSOLE, MOST = ("mixed console", "65536"), {"set": 5, "recall": 3}
+FILE = ["C file", "C file over proved"]
 BEGIN, END = "<!-- measured: begin -->", "<!-- measured: end -->"
 
 
@@ -81,11 +85,18 @@ class Report:
         self.machine = lines_of(os.path.join(folder, "machine"))
         # names and ratios of what inspects: the goal is about these, and they are drawn
         self.bars = []
+        self.files = []
         self.shapes = unique(key[1] for key in self.count if key[0] == "inspect")
 
     def bar(self, name, ours, theirs):
         self.bars.append((name, ours / theirs))
         return ratio(ours, theirs)
+
+    def file(self, key, calls=1):
+        """The C file's instructions for what the key names, and how many times the proved library's they are."""
+        ours, theirs = (calls * self.count[(*key, who)] for who in ("file", "proved"))
+        self.files.append((ours / theirs, key))
+        return [number(ours), as_text(ours / theirs, FILE_GOAL)]
 
     def inspection(self, n):
         rows, timed = [], self.time and n == 65536
@@ -94,11 +105,13 @@ class Report:
             each = n / 1024
             row = [shape, number(ours / each), number(theirs / each)]
             row.append(self.bar("inspect, " + shape, ours, theirs) if n == 65536 else ratio(ours, theirs))
+            ours, over = self.file(("inspect", shape, str(n)))
+            row += [number(self.count["inspect", shape, str(n), "file"] / each), over]
             if timed:
                 spent = [self.time["inspect", shape, who] for who in ("proved", "plain")]
                 row += [number(spent[0] / each), number(spent[1] / each), ratio(*spent)]
             rows.append(row)
-        head = ["Pool", "Proved", "Plain C", "Ratio"] + (["Proved, ns", "Plain C, ns", "Ratio"] if timed else [])
+        head = ["Pool", "Proved", "Plain C", "Ratio", *FILE] + (["Proved, ns", "Plain C, ns", "Ratio"] if timed else [])
         return table(head, rows)
 
     def operations(self):
@@ -110,9 +123,9 @@ class Report:
             row.append(self.bar(label, get("proved"), get("plain")))
             ours, theirs = (get(who) - get(who + " inspection") for who in ("proved", "plain"))
             row += [number(ours), number(theirs), ratio(ours, theirs), number(get("plain unchecked"))]
-            rows.append(row)
+            rows.append(row + self.file((kind, name, shape)))
         head = ["Call", "Proved", "Plain C", "Ratio", "Proved, less inspection", "Plain C, less inspection", "Ratio",
-                "Plain C, unchecked"]
+                "Plain C, unchecked", *FILE]
         return table(head, rows)
 
     def countings(self):
@@ -121,8 +134,8 @@ class Report:
             get = lambda who: self.count[kind, name, shape, who]
             row = [f"{shape}: {name}", number(get("proved")), number(get("plain")), ratio(get("proved"), get("plain"))]
             ours, theirs = (get(who) - self.count["inspect", shape, "65536", who] for who in ("proved", "plain"))
-            rows.append(row + [number(ours), number(theirs), ratio(ours, theirs)])
-        head = ["Call", "Proved", "Plain C", "Ratio", "Proved, less inspection", "Plain C, less inspection", "Ratio"]
+            rows.append(row + [number(ours), number(theirs), ratio(ours, theirs)] + self.file((kind, name, shape)))
+        head = ["Call", "Proved", "Plain C", "Ratio", "Proved, less inspection", "Plain C, less inspection", "Ratio", *FILE]
         return table(head, rows)
 
     def consoles(self):
@@ -138,16 +151,18 @@ class Report:
     def bank(self):
         rows = []
         for name, ours, theirs, inspections in self.bank_calls(CONSOLE):
-            rows.append([name, number(ours), as_text(inspections), number(theirs), self.bar("bank: " + name, ours, theirs)])
-        return table(["Call", "Proved", "In inspections", "Plain C", "Ratio"], rows)
+            rows.append([name, number(ours), as_text(inspections), number(theirs), self.bar("bank: " + name, ours, theirs),
+                         *self.file(("bank", name, *CONSOLE))])
+        return table(["Call", "Proved", "In inspections", "Plain C", "Ratio", *FILE], rows)
 
     def small_banks(self):
         rows = []
         for console in self.consoles()[1:]:
             for name, ours, theirs, inspections in self.bank_calls(console):
                 label = f"{console[0]}, {int(console[1]):,} bytes: {name}"
-                rows.append([label, number(ours), as_text(inspections), number(theirs), ratio(ours, theirs)])
-        return table(["Call", "Proved", "In inspections", "Plain C", "Ratio"], rows)
+                rows.append([label, number(ours), as_text(inspections), number(theirs), ratio(ours, theirs),
+                             *self.file(("bank", name, *console))])
+        return table(["Call", "Proved", "In inspections", "Plain C", "Ratio", *FILE], rows)
 
     def dearest(self):
         """What the dearest set and the dearest recall cost in inspections, and what they may cost."""
@@ -170,8 +185,9 @@ class Report:
 
     def tape(self):
         ours, theirs = (13 * self.count["tape", "", who] for who in ("proved", "plain"))
-        return table(["Run", "Proved", "Plain C", "Ratio"],
-                     [["the worked tape, 13 calls", number(ours), number(theirs), self.bar("the worked tape", ours, theirs)]])
+        return table(["Run", "Proved", "Plain C", "Ratio", *FILE],
+                     [["the worked tape, 13 calls", number(ours), number(theirs), self.bar("the worked tape", ours, theirs),
+                       *self.file(("tape", ""), 13)]])
 
     def served(self):
         rows = []
@@ -205,6 +221,10 @@ class Report:
         out += ["### Stack and text", ""] + self.sizes()
         within = sum(value <= GOAL for _, value in self.bars)
         out += [f"Of the {len(self.bars)} ratios drawn in bench.svg, {within} are within {GOAL}.", ""]
+        close = sum(value <= FILE_GOAL for value, _ in self.files)
+        middle = math.exp(sum(math.log(value) for value, _ in self.files) / len(self.files))
+        out += [f"Of the {len(self.files)} counts of the C file, {close} are within {FILE_GOAL} times the proved library's; the geometric mean of "
+                f"all is {as_text(middle, FILE_GOAL)}, the greatest {as_text(max(self.files)[0], FILE_GOAL)}.", ""]
         return "\n".join(out)
 
     def svg(self):

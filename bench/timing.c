@@ -70,12 +70,12 @@ static void inspections(void) {
         inspect_times(&plain, pool, 8);
         int times = enough((now() - from) / 8);
         for (int r = 0; r < ROUNDS; r++)
-            for (int l = 0; l < 2; l++) {
+            for (int l = 0; l < TIMED; l++) {
                 from = now();
                 inspect_times(libraries[l], pool, times);
                 rounds[l][r] = (now() - from) / times;
             }
-        for (int l = 0; l < 2; l++) {
+        for (int l = 0; l < TIMED; l++) {
             snprintf(name, sizeof name, "%s | %s", shapes[s].name, libraries[l]->name);
             print_median("inspect", name, rounds[l]);
         }
@@ -86,18 +86,18 @@ static void both(void) {
     char name[100];
     double rounds[2][ROUNDS];
     for (int p = 0; p < 4; p++) {
-        for (int l = 0; l < 2; l++)
+        for (int l = 0; l < TIMED; l++)
             shapes[pairs[p].shape].build(images[l], LARGEST);
         double from = now();
         pair_times(&plain, images[1], pairs[p].size, 8);
         int times = enough((now() - from) / 8);
         for (int r = 0; r < ROUNDS; r++)
-            for (int l = 0; l < 2; l++) {
+            for (int l = 0; l < TIMED; l++) {
                 from = now();
                 pair_times(libraries[l], images[l], pairs[p].size, times);
                 rounds[l][r] = (now() - from) / times;
             }
-        for (int l = 0; l < 2; l++) {
+        for (int l = 0; l < TIMED; l++) {
             snprintf(name, sizeof name, "%s | %s", pairs[p].name, libraries[l]->name);
             print_median("pair", name, rounds[l]);
         }
@@ -107,12 +107,12 @@ static void both(void) {
 static void tape(void) {
     double rounds[2][ROUNDS];
     for (int r = 0; r < ROUNDS; r++)
-        for (int l = 0; l < 2; l++) {
+        for (int l = 0; l < TIMED; l++) {
             double from = now();
             tape_times(libraries[l], pool, 200);
             rounds[l][r] = (now() - from) / 200;
         }
-    for (int l = 0; l < 2; l++)
+    for (int l = 0; l < TIMED; l++)
         print_median("tape", libraries[l]->name, rounds[l]);
 }
 

@@ -30,6 +30,8 @@ pub struct Options {
     pub keep: PathBuf,
     /// The other probe has the pool's calls and no bank.
     pub pool_only: bool,
+    /// The first difference is enough.
+    pub first: bool,
 }
 
 struct Case {
@@ -46,7 +48,7 @@ struct Compare {
 
 /// True when nothing differed.
 pub fn run(options: Options) -> bool {
-    let report = Report::new(&options.keep);
+    let report = if options.first { Report::until_first } else { Report::new }(&options.keep);
     let mut compare = Compare { options, report, endless: 0 };
     compare.fixed();
     let (mut by_tapes, mut by_images) = (Counts::new(), Counts::new());

@@ -3,12 +3,12 @@
 //!
 //!   second tape                    a tape on standard input, its lines on standard output
 //!   second probe                   probe commands on standard input, a line for each
-//!   second compare --tape "COMMAND" --probe "COMMAND" [--seed N] [--keep DIR] [--pool-only]
+//!   second compare --tape "COMMAND" --probe "COMMAND" [--seed N] [--keep DIR] [--pool-only] [--first]
 //!                                  holds both programs, each a command for a shell,
 //!                                  against this one; failing inputs are kept in DIR
 //!                                  (target/compare); the last line is `N passed, M failed`;
 //!                                  --pool-only leaves the piston bank out, for a probe that has
-//!                                  none
+//!                                  none; --first ends at the first difference
 //!   second self [--seed N]         checks of this program by itself, with the same last line
 //!   second count [--seed N]        only the branches that the random inputs take
 //!   second work N K                probe commands: a pool of N bytes full of 8-byte blocks, and K
@@ -75,7 +75,7 @@ fn usage(fault: &str) -> ! {
     eprintln!(
         "       second compare --tape \"COMMAND\" --probe \"COMMAND\" [--seed N] [--keep DIR]"
     );
-    eprintln!("                      [--pool-only]");
+    eprintln!("                      [--pool-only] [--first]");
     exit(2)
 }
 
@@ -145,5 +145,6 @@ fn compare_options(words: &[String]) -> compare::Options {
         seed: seed(words),
         keep: PathBuf::from(option(words, "--keep").unwrap_or("target/compare")),
         pool_only: words.iter().any(|word| word == "--pool-only"),
+        first: words.iter().any(|word| word == "--first"),
     }
 }

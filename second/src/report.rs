@@ -4,6 +4,7 @@
 use crate::script::{command_of_line, record_of_line};
 use std::fs;
 use std::path::{Path, PathBuf};
+use std::process::exit;
 
 /// Which program an input is for.
 #[derive(Clone, Copy, PartialEq, Eq)]
@@ -31,11 +32,14 @@ pub struct Report {
     group_failed: u64,
     passed: u64,
     failed: u64,
+    /// Whether the first difference ends the program.
+    first: bool,
 }
 
 impl Report {
     pub fn new(keep: &Path) -> Report {
         Report {
+            first: false,
             keep: keep.to_path_buf(),
             group: String::new(),
             group_passed: 0,
@@ -43,6 +47,11 @@ impl Report {
             passed: 0,
             failed: 0,
         }
+    }
+
+    /// A report that ends the program at the first difference.
+    pub fn until_first(keep: &Path) -> Report {
+        Report { first: true, ..Report::new(keep) }
     }
 
     pub fn begin(&mut self, group: &str) {
@@ -106,6 +115,7 @@ impl Report {
         println!("    line {}, wanted: {}", line + 1, ours);
         println!("    line {}, given:  {}", line + 1, theirs);
         self.keep_input(program, input);
+        self.stop_at_first();
     }
 
     /// The other program gave no output at all.
@@ -114,6 +124,15 @@ impl Report {
         if self.group_failed <= SHOWN {
             println!("  {}: {}: {}", self.group, case, why);
             self.keep_input(program, input);
+        }
+        self.stop_at_first();
+    }
+
+    fn stop_at_first(&mut self) {
+        if self.first {
+            self.end();
+            self.close();
+            exit(1);
         }
     }
 

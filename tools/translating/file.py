@@ -3,7 +3,7 @@
 import os
 import re
 
-from forms import FORMS, KIT
+from forms import KIT, write
 from source import Sources
 from tree import Call, Named, Unknown, everything, inside, values
 from writing import KEPT, Names, Writer, broken, c_type
@@ -24,9 +24,9 @@ HEADING = '''\
 
 
 class File:
-    def __init__(self, root, crates, program, faults=None):
+    def __init__(self, root, crates, program, fault=None):
         self.root, self.crates, self.program, self.sources = root, crates, program, Sources(root, crates.names)
-        self.faults, self.leading_zeros = faults, False
+        self.fault, self.leading_zeros = fault, False
         self.used_types, self.makers, self.used_constants = [], {}, {}
         self.headers = self.read_headers()
 
@@ -52,9 +52,7 @@ class File:
         return line
 
     def form(self, name, *args):
-        if self.faults and name in self.faults:
-            return self.faults[name](FORMS[name], *args)
-        return FORMS[name](*args)
+        return write(self.fault, name, args)
 
     # ---- what is used
 

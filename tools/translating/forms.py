@@ -5,6 +5,8 @@ Integers of every width are unsigned in C, and so is what is computed: nothing h
 another width than the form has, a cast says the width. A truth is an `int`, 0 or 1.
 """
 
+from tree import Unknown
+
 
 class Text(str):
     """C text; `.at(level)` puts it into parentheses where it binds less than that."""
@@ -33,6 +35,14 @@ def form(name):
         FORMS[name] = function
         return function
     return enter
+
+
+def write(fault, name, args):
+    """A form with its arguments, or what a fault writes in its place."""
+    if name not in FORMS:
+        raise Unknown(f"the form {name}")
+    written = fault.write(args) if fault and fault.form == name else None
+    return FORMS[name](*args) if written is None else written
 
 
 # ---- numbers
