@@ -288,6 +288,7 @@ pub fn probe_cases() -> Vec<ProbeCase> {
         false_head_case(),
     ];
     cases.extend(ring_cases());
+    cases.extend(forged_cases());
     cases
 }
 
@@ -393,6 +394,25 @@ fn ring_cases() -> Vec<ProbeCase> {
         cases.push(verdict_case(name, &image, "N 2 0"));
     }
     cases
+}
+
+/// In the last bytes of the greatest pool a small bin leads to what looks like its free block, and
+/// stands inside a held payload: sound only where the bin leads to the true one.
+fn forged_cases() -> Vec<ProbeCase> {
+    let mut pool = vec![0; 65_536];
+    crate::calls::lay_out(&mut pool).unwrap();
+    assert_eq!(crate::calls::take(&mut pool, 4), Ok(65_532));
+    assert_eq!(crate::calls::take(&mut pool, 20), Ok(65_508));
+    crate::calls::give_back(&mut pool, 65_532).unwrap();
+    // the head of a free block of 8 bytes, with no next one
+    put4(&mut pool, 65_512, 8 << 2 | 2);
+    put4(&mut pool, 65_512 + SMALL_NEXT, 0);
+    let mut forged = pool.clone();
+    put4(&mut forged, 32, 65_512);
+    vec![
+        verdict_case("a forged block beside the true one", &pool, "N 0 65536"),
+        verdict_case("a forged block in place of the true one", &forged, "N 2 0"),
+    ]
 }
 
 fn verdict_case(name: &str, image: &[u8], verdict: &str) -> ProbeCase {

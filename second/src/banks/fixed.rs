@@ -10,7 +10,7 @@ use crate::script::Script;
 /// W an offset and the bytes, in hex, `-` for none.
 type Steps = &'static [(&'static str, &'static str)];
 
-const BY_HAND: [(&str, Steps); 9] = [
+const BY_HAND: [(&str, Steps); 10] = [
     (
         "set, recall, set again, clear",
         &[
@@ -64,6 +64,28 @@ const BY_HAND: [(&str, Steps); 9] = [
             ("V", "V 0 32 0 0 0 0 180 .."),
             ("R 3", "R 0 0 -"),
             ("R 4", "R 0 9 01b1b2b3b4b5b6b7b8"),
+        ],
+    ),
+    (
+        "the last bytes of the greatest pool",
+        &[
+            ("I 65536", "I 0 65536"),
+            ("L", "L 0 65536"),
+            // 9 bytes need 16: the block at 65520.
+            ("K 0 1 a1a2a3a4a5a6a7a8", "K 0 65536"),
+            ("V", "V 0 32 65524 .."),
+            // Inside the block, and past the pool.
+            ("B 65532 ..", "B 0 32"),
+            ("R 0", "R 12 0 -"),
+            ("Q 0", "Q 12 0"),
+            ("B 65524 .. 65532", "B 0 32"),
+            ("R 0", "R 12 0 -"),
+            ("B .. 65540", "B 0 32"),
+            ("K 0 1 a1a2a3a4a5a6a7a8", "K 12 0"),
+            ("B .. 65524", "B 0 32"),
+            ("R 31", "R 0 9 01a1a2a3a4a5a6a7a8"),
+            ("Q 31", "Q 0 65536"),
+            ("V", "V 0 32 .."),
         ],
     ),
     (
