@@ -25,8 +25,8 @@ def depth(function, above=()):
     return own[function] + max((depth(c, (*above, function)) for c in calls.get(function, [])), default=0)
 
 
-exported = sorted(f for f in own if re.match(r"(pool|bank)_(lay_out|inspect|take|give_back|ask|figures|class_count|set|clear|recall)$", names[f])
-                  and f == names[f])
+CALLS = "pool_lay_out pool_inspect pool_take pool_give_back pool_ask pool_figures pool_class_count bank_set bank_clear bank_recall"
+exported = [call for call in CALLS.split() if call in own]
 for function in exported:
     print(f"  {names[function]}: stack {depth(function)}")
 brought = sorted(names[f] for f in own if f not in calls and not own[f] and re.match(r"mem|__", names[f]))

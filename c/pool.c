@@ -692,7 +692,7 @@ static inline int header_false_block_ok(const unsigned char *pool, size_t pool_l
     if (!header_link_ok(PAPER_FALSE_BLOCK, words_field(pool, pool_len, PAPER_FALSE_BLOCK, PAPER_CHAIN))) {
         return 0;
     }
-    if (words_field(pool, pool_len, PAPER_FALSE_BLOCK, PAPER_CHAIN + 4u) != 0u) {
+    if (words_field(pool, pool_len, PAPER_FALSE_BLOCK, (uint32_t)PAPER_CHAIN + 4u) != 0u) {
         return 0;
     }
     return header_zeros(pool, pool_len);

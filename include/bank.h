@@ -1,5 +1,5 @@
 /* A piston bank: 32 pistons, each empty or naming one record of a pool (pool.h). Every call is proved to answer as written here, whatever
-   the pool's bytes and the bank's numbers are (docs/BANK.md). It is in the same archive as the pool.
+   the pool's bytes and the bank's numbers are (docs/BANK.md). It is in the same C file and archive as the pool.
 
        static unsigned char pool[1024];
        static uint32_t bank[BANK_PISTONS];               zeros: every piston is empty
@@ -52,7 +52,8 @@
    copies of pool and bank that are changed in turn: examples/c/copies.h has it.
 
    What a call costs: on a large pool a set some 4 inspections of the pool, a clear 3, a recall 2; a little more on a small one
-   (docs/BENCH.md). And 2.5 KiB of stack. No heap, no global state: any number of banks, several on one pool too. Nothing here locks. */
+   (docs/BENCH.md). And 2.5 KiB of stack in the archive, 1.5 KiB in the C file on a Cortex-M (docs/BOARD.md). No heap, no global state: any
+   number of banks, several on one pool too. Nothing here locks. */
 #ifndef BANK_H
 #define BANK_H
 

@@ -1,6 +1,7 @@
 /* A memory pool for records that must not be lost, in a buffer of yours. Every call is proved to answer as written here, whatever
-   bytes the buffer has (docs/PROMISES.md). Build the library with tools/library, and link target/staticlib/libboard.a, or have
-   tools/install put both where your build looks; of the C library it calls memset alone.
+   bytes the buffer has (docs/PROMISES.md). Compile c/pool.c with your program, for any processor (docs/BOARD.md). Or, on x86-64, build the
+   archive with tools/library, and link target/staticlib/libboard.a, or have tools/install put both where your build looks; of the C
+   library it calls memset alone.
 
        static unsigned char pool[1024];
        uint64_t r = pool_lay_out(pool, sizeof pool);
@@ -56,7 +57,7 @@
 #define POOL_H
 
 /* What changed with each version: docs/CHANGES.md. */
-#define POOL_VERSION "0.3.0"
+#define POOL_VERSION "0.3.1"
 
 #include <stddef.h>
 #include <stdint.h>

@@ -36,6 +36,10 @@ def number_type(c_type):
     return c_type in ("uint8_t", "uint32_t", "uint64_t")
 
 
+def cast(c_type, text):
+    return Text.of(f"({c_type}){text.at(UNARY)}", UNARY)
+
+
 def plus_one(text):
     return Text.of(f"{Text.of(text, 1 if ' ' in text else 15).at(ADD)} + 1u", ADD)
 
@@ -65,7 +69,8 @@ fault("Or", "the left operand alone")(lambda own, bits, a, b: a)
 fault("Shl", "to the right")(lambda own, bits, a, b: FORMS["Shr Unsigned"](bits, a, b))
 fault("Shl", "64 bits in 32")(lambda own, bits, a, b: Text.of(f"(uint32_t)({own(bits, a, b)})", UNARY) if bits == 64 else None)
 fault("Shr Unsigned", "one bit more")(lambda own, bits, a, b: own(bits, a, Text.of(f"({b} + 1u)", 15)))
-fault("Shr Unsigned", "signed")(lambda own, bits, a, b: Text.of(f"(uint32_t)((int32_t){a.at(UNARY)} >> {b.at(UNARY)})", UNARY) if bits == 32 else None)
+fault("Shr Unsigned", "signed")(
+    lambda own, bits, a, b: cast("uint32_t", Text.of(f"({own(bits, cast('int32_t', a), b)})", 15)) if bits == 32 else None)
 fault("Eq", "another")(lambda own, bits, a, b: FORMS["Ne"](bits, a, b))
 fault("Eq", "of 8 bits")(lambda own, bits, a, b: own(bits, Text.of(f"(uint8_t)({a})", UNARY), Text.of(f"(uint8_t)({b})", UNARY)))
 fault("Ne", "the same")(lambda own, bits, a, b: FORMS["Eq"](bits, a, b))
@@ -84,8 +89,9 @@ fault("LeadingZeros, its function", "a step counts too little")(lambda own: own(
 fault("LeadingZeros, its function", "a step tests one bit too high")(lambda own: own().replace("x >> 4 != 0u", "x >> 5 != 0u"))
 fault("LeadingZeros, its function", "the last bit does not count")(lambda own: own().replace("zeros - x", "zeros"))
 fault("Cast Unsigned Unsigned", "left out where it widens")(lambda own, bits, a: a if bits == 64 else None)
-fault("Cast Unsigned Unsigned", "16 bits of 32")(lambda own, bits, a: Text.of(f"(uint16_t){a.at(UNARY)}", UNARY) if bits == 32 else None)
-fault("Cast Unsigned Unsigned", "7 bits of 8")(lambda own, bits, a: Text.of(f"(uint8_t)({a.at(UNARY)} & 127u)", UNARY) if bits == 8 else None)
+fault("Cast Unsigned Unsigned", "16 bits of 32")(lambda own, bits, a: cast("uint16_t", a) if bits == 32 else None)
+fault("Cast Unsigned Unsigned", "7 bits of 8")(
+    lambda own, bits, a: cast("uint8_t", Text.of(f"({a.at(UNARY)} & 127u)", 15)) if bits == 8 else None)
 fault("Cast Unsigned Signed", "the sign bit turned over")(lambda own, bits, a: Text.of(f"({a.at(UNARY)} ^ 0x80000000u)", 15))
 fault("Cast Signed Unsigned", "the sign bit turned over")(lambda own, bits, a: Text.of(f"({a.at(UNARY)} ^ 0x80000000u)", 15))
 fault("wrapping_add_u32", "it does not wrap")(lambda own, a, b: Text.of(f"({a} > 0xffffffffu - {b} ? 0xffffffffu : {a} + {b})", 15))
@@ -100,7 +106,7 @@ fault("tag", "always the first")(lambda own, of: Text.of("0", 15))
 fault("field of a variant", "the other one of two numbers")(
     lambda own, of, variant, number, count: own(of, variant, 1 - number, count) if variant in ("Held", "FirstOfBin") else None)
 fault("field of a variant", "8 bits of 32")(
-    lambda own, of, variant, number, count: Text.of(f"(uint8_t){own(of, variant, number, count)}", UNARY) if variant == "Done" else None)
+    lambda own, of, variant, number, count: cast("uint8_t", own(of, variant, number, count)) if variant == "Done" else None)
 fault("struct", "fields turned round")(lambda own, name, fields: own(name, fields[1:] + fields[:1]))
 OTHER = {"Done": "Refused", "Refused": "Done", "Held": "Free", "HighEnd": "LowEnd", "LowEnd": "HighEnd", "ExactBin": "LargerBin",
          "LargerBin": "ExactBin", "Eight": "Sixteen", "Sixteen": "ThirtyTwo", "ThirtyTwo": "Eight"}
@@ -129,7 +135,8 @@ def zero(own, name, args, types):
 
 # ---- statements
 
-fault("declare a local", "one more")(lambda own, c_type, name, value: own(c_type, name, plus_one(value)) if number_type(c_type) else None)
+fault("declare a local", "one more")(
+    lambda own, c_type, name, value: own(c_type, name, plus_one(value)) if number_type(c_type) else None)
 fault("set a local", "left out")(lambda own, name, value: [f"(void)({value});"])
 fault("set a field", "left out")(lambda own, to, value: [f"(void)({value});"])
 fault("store", "left out")(lambda own, to, value: [f"(void)({value});"])
@@ -139,13 +146,15 @@ fault("if", "its test turned round")(lambda own, test, then, other: own(Text.of(
 fault("if", "always taken")(lambda own, test, then, other: own(Text.of("1", 15), then, other))
 fault("if", "never taken")(lambda own, test, then, other: own(Text.of("0", 15), then, other))
 fault("switch", "the first two arms exchanged")(lambda own, tag, tags, arms: own(tag, [tags[1], tags[0], *tags[2:]], arms))
-fault("switch, leaving", "where it is the first")(lambda own, tag, tags, other: [line.replace("!=", "==") for line in own(tag, tags, [])[:1]] + indented(other) + ["}"])
+fault("switch, leaving", "where it is the first")(
+    lambda own, tag, tags, other: [own(tag, tags, [])[0].replace("!=", "==")] + own(tag, tags, other)[1:])
 fault("while", "tested after its body")(lambda own, test, body: ["do {"] + indented(body) + [f"}} while ({test});"])
 fault("while", "one turn at most")(lambda own, test, body: [re.sub(r"\bcontinue;", ";", line) for line in FORMS["if"](test, body, [])])
 fault("loop", "one turn")(lambda own, body: ["do {"] + indented(body) + ["} while (0);"])
 fault("continue", "left out")(lambda own: [";"])
 fault("return a value", "one more")(lambda own, value, c_type: own(plus_one(value), c_type) if number_type(c_type) else None)
-fault("return a value", "the other truth")(lambda own, value, c_type: own(Text.of(f"!({value})", UNARY), c_type) if c_type == "int" else None)
+fault("return a value", "the other truth")(
+    lambda own, value, c_type: own(Text.of(f"!({value})", UNARY), c_type) if c_type == "int" else None)
 fault("return", "left out")(lambda own: [";"])
 fault("fill an array", "all but the last")(lambda own, name, count, value: own(name, count - 1, value))
 fault("fill an array", "with ones")(lambda own, name, count, value: own(name, count, "1u"))

@@ -127,7 +127,7 @@ class File:
             raise Unknown("the crate board exports no call")
         pool = self.reach([p for n, p in exported.items() if n.startswith("pool_")])
         every = self.reach(exported.values())
-        self.names = Names(self.sources, exported, every)
+        self.names = Names(exported, every)
         first = self.part([p for p in every if p in pool])
         common = self.take_used()
         second = self.part([p for p in every if p not in pool])

@@ -13,8 +13,8 @@ A form that is not named here stops the translation: nothing is guessed. What ea
 import json
 
 from forms import KIT
-from tree import (Array, BOOL, Call, Cases, Cast, Fn, If, Int, Len, Load, Loop, Make, Named, Num, Offset, Op1, Op2, Part,
-                  PTR, Ref, Repeat, Return, Set, SetField, Slice, Start, Store, Do, Field, Tag, Held, Truth, UNIT, Unknown, Var, Break, Continue)
+from tree import (Array, BOOL, Break, Call, Cases, Cast, Continue, Do, Field, Fn, Held, If, Int, Len, Load, Loop, Make, Named, Num, Offset,
+                  Op1, Op2, PTR, Part, Ref, Repeat, Return, Set, SetField, Slice, Start, Store, Tag, Truth, UNIT, Unknown, Var)
 
 OPS1 = {"Not", "LeadingZeros"}
 OPS2 = {"Eq", "Ne", "And", "Or", "Shl"}

@@ -1,12 +1,12 @@
-"""Writes a function, and the whole file."""
+"""Writes one function: what is declared where, and each statement and value by its form."""
 
 import re
 
 from forms import KIT, Text, UNARY, WIDTH, indented
 from shape import Shaper, ends, locals_in
 from tree import (Array, BOOL, Call, Cases, Cast, Continue, Do, Field, Held, If, Int, Len, Load, Loop, Make, Named, Num, Offset,
-                  Op1, Op2, Part, Ref, Repeat, Return, Set, SetField, Slice, Start, Store, Truth, UNIT, Unknown, Unless, Var, While, bodies,
-                  everything, inside, values)
+                  Op1, Op2, Part, Ref, Return, Set, SetField, Slice, Start, Store, Truth, UNIT, Unknown, Unless, Var, While, bodies,
+                  everything, values)
 
 # Names that a C or a C++ compiler keeps for itself.
 KEPT = set("""alignas alignof and and_eq asm auto bitand bitor bool break case catch char class compl concept const consteval constexpr
@@ -15,7 +15,6 @@ extern false float for friend goto if inline int long mutable namespace new noex
 protected public register reinterpret_cast requires restrict return short signed sizeof static static_assert static_cast struct switch
 template this thread_local throw true try typedef typeid typename typeof union unsigned using virtual void volatile wchar_t while xor
 xor_eq each""".split())
-
 
 LINE = 132  # columns
 
@@ -61,7 +60,7 @@ class Names:
     """The C names of functions and types: the crate's, then the item's own. Where an exported call has that name already, the file
     stands between them, which is `lib` for `lib.rt`."""
 
-    def __init__(self, sources, exported, reached):
+    def __init__(self, exported, reached):
         self.taken = dict(exported)
         self.functions = {path: name for name, path in exported.items()}
         for path in reached:
@@ -340,13 +339,11 @@ class Writer:
         if shifted:
             return shifted
         left, right = self.value(value.left), self.value(value.right)
-        if bits == 64 and value.op in ("Add", "Sub", "Mul", "Shl"):
-            # C computes in the width of the operands: one of them must have all 64 bits
-            left, right = self.wide(value.left, left), self.wide(value.right, right) if value.op != "Shl" else right
-            if isinstance(value.left, Num) and (isinstance(value.right, Num) or value.op == "Shl"):
-                left = Text.of(f"(uint64_t){left.at(UNARY)}", UNARY)
-        if bits == 8 and value.op not in ("Eq", "Ne"):
-            raise Unknown(f"{value.op} of 8 bits")
+        # C computes in the width of the operands, and shifts in that of the left one: it must be the form's
+        if value.op in ("Add", "Sub"):
+            left, right = self.wide(value.left, left), self.wide(value.right, right)
+        if isinstance(value.left, Num) and (isinstance(value.right, Num) or value.op in ("Shl", "Shr")):
+            left = Text.of(f"({WIDTH[bits]}){left.at(UNARY)}", UNARY)
         return self.form(f"{value.op} {value.sign}" if value.sign else value.op, bits, left, right)
 
     def by_power(self, value):
@@ -361,7 +358,7 @@ class Writer:
 
     @staticmethod
     def wide(value, text):
-        """A length is a `size_t` in C, which may be narrower."""
+        """A length is a `size_t` in C, which may have fewer than 64 bits."""
         return Text.of(f"(uint64_t){text.at(UNARY)}", UNARY) if isinstance(value, Len) else text
 
     def make(self, value):
