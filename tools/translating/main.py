@@ -2,6 +2,7 @@
 main.py ROOT --faults           prints the faults of faults.py, a line each: number, how many places, form, what is wrong
 main.py ROOT --fault N [PLACE]  prints the C file with that fault, at every place or at one
 main.py ROOT --operations [N]   prints the C program of operations.py, with fault N
+main.py ROOT --functions FOLDER writes the C program of functions.py there, what it reads, and what it must print
 """
 
 import os
@@ -14,10 +15,13 @@ from mir import Program
 from tree import Unknown
 
 
+def mir_of(root, crates):
+    return [os.path.join(root, f"target/rlib/{crate}.rlib/toolchain/mir.json") for crate in crates.names]
+
+
 def written(root, fault=None):
     crates = Crates(root, "board")
-    files = [os.path.join(root, f"target/rlib/{crate}.rlib/toolchain/mir.json") for crate in crates.names]
-    return File(root, crates, Program(files), fault).write()
+    return File(root, crates, Program(mir_of(root, crates)), fault).write()
 
 
 def list_faults(root):
@@ -42,11 +46,28 @@ def operations(number=None):
     return Operations(lambda name, *args: write(fault, name, args)).text()
 
 
+def functions(root, folder):
+    from functions import Functions
+    crates = Crates(root, "board")
+    file = File(root, crates, Program(mir_of(root, crates)))
+    file.write()
+    every = Functions(file, [path for path in file.names.functions], mir_of(root, crates))
+    read, lines = every.cases()
+    for name, what in (("functions.c", every.program().encode()), ("functions.in", read), ("functions.out", lines.encode())):
+        with open(os.path.join(folder, name), "wb") as to:
+            to.write(what)
+    ways, left = every.ways()
+    return f"{len(every.paths)} functions, {len(lines.splitlines())} calls; of {ways} ways on from a test {ways - len(left)} are gone" + \
+        (f", not all of {', '.join(dict.fromkeys(left))}\n" if left else "\n")
+
+
 def main():
     root, *words = sys.argv[1:]
     try:
         if words == ["--faults"]:
             text = list_faults(root)
+        elif words[:1] == ["--functions"]:
+            text = functions(root, *words[1:])
         elif words[:1] == ["--operations"]:
             text = operations(*words[1:])
         elif words:
