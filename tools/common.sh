@@ -81,4 +81,12 @@ build() { # LOG WORD NAME
   [ "${PIPESTATUS[0]}" -eq 0 ] || { grep -vE '^((fn|struct|enum) .*: proved|library |logic )' "$log" | tail -n 40 >&2; return 1; }
 }
 
+# Runs a command beside this one, as many at once as there are processors; `wait` is for all of them.
+running=0
+beside() { # COMMAND..
+  "$@" &
+  running=$((running + 1))
+  [ "$running" -lt "$(nproc)" ] || { wait -n; running=$((running - 1)); }
+}
+
 cd "$root" || exit 2
