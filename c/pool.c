@@ -1,7 +1,7 @@
 /* The pool and the piston bank for any processor: C99 for a compiler that has <stddef.h> and <stdint.h>, and no library.
 
-   Made by tools/c99 from the checked MIR of the proved crates, so that each function here is one there: do not edit it, edit the crates.
-   What is proved is that program. That this file does the same is tested, not proved: docs/BOARD.md says how, and how to use it.
+   Made by tools/c99 from the checked MIR of the proved crates, with a function for each of theirs: do not edit it, edit the crates. What is
+   proved is that program. That this file does the same is tested, not proved: docs/BOARD.md says how, and how to use the file.
 
    Names say where a function comes from: bins_find is `find` of the crate bins. A slice of Rattle's is a pointer and a length, NAME and
    NAME_len; its usize is uint64_t, since the proofs are about 64 bits, whatever size_t is here. Every number is unsigned: a signed
