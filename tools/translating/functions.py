@@ -12,7 +12,7 @@ from machine import Block, Machine
 from tree import BOOL, Int, Named, Ref, Slice, UNIT
 from writing import c_type, pointer_type
 
-CASES = 60  # of each function with arguments by chance, five times as many where they are all numbers,
+CASES = 100  # of each function with arguments by chance, five times as many where they are all numbers,
 SEEN = 60  # at most as it was called,
 RUNS = 1200  # while so many exported calls ran
 TRIES = 400  # by chance, where a way of the function was never gone
@@ -91,6 +91,8 @@ class Functions:
                         block.numbers[value] = self.random.randrange(5)  # perhaps the kind of a record
                 if step % 8 == 7:
                     pools.append(list(block.numbers))
+        # and some cut off, with no more than the header and the false block, or less
+        short = [pool[:length] for pool, length in zip(pools, [168, 167, 164, 169, 172, 8, 4])]
         damaged = []
         for pool in pools * 2:
             pool = list(pool)
@@ -98,11 +100,13 @@ class Functions:
                 at = 4 * self.random.choice([self.random.randrange(42), self.random.randrange(len(pool) // 4)])
                 pool[at:at + 4] = struct.pack("<I", self.random.choice([self.number_in(pool), self.random.getrandbits(32)]))
             damaged.append(pool)
-        return pools + damaged
+        return pools + damaged + short
 
     def number_in(self, pool):
         """A number that means something in the pool: a start, an offset, a size, a head."""
-        if len(pool) < 176 or self.random.random() < 0.3:
+        if len(pool) < 176:
+            return self.random.choice(EDGES + [max(len(pool) - less, 0) for less in (0, 1, 3, 4, 5, 7, 8, 9)])
+        if self.random.random() < 0.3:
             return self.random.choice(EDGES)
         found = [self.word(pool, 16), self.word(pool, 24), len(pool), len(pool) - 4, len(pool) - 8]
         for at, head in self.blocks(pool):
@@ -126,10 +130,12 @@ class Functions:
         """Each with the bytes that the C program reads for it. The first list of bytes is mostly the pool, and a later one a record's body; beside a bank a
         number is mostly a piston's."""
         made, lists = [], 0
+        if self.random.random() < 0.15:
+            pool = self.few()
         for ty in params:
             if isinstance(ty, Slice) and ty.of == Int(8):
                 lists += 1
-                made.append(self.lent(8, pool if self.random.random() < (0.85 if lists == 1 else 0.1) else self.few()))
+                made.append(self.lent(8, pool if lists == 1 else self.few()))
             elif ty == Int(32) and any(isinstance(other, Ref) for other in params) and self.random.random() < 0.7:
                 number = self.random.choice([0, 1, 2, 3, 4, 31, 32])
                 made.append((number, packed(64, [number])))
@@ -244,20 +250,28 @@ class Functions:
                 words += ["|", *(f"{n:x}" for n in block.numbers)]
         return packed(64, [number]) + b"".join(given for _, given in made), " ".join(words)
 
+    def given(self, path):
+        """The arguments of a function's calls: as it was called, by chance, and where it takes numbers alone, each of them at each edge."""
+        params = self.file.program.signature(path)[1]
+        lists = any(isinstance(ty, Slice) for ty in params)
+        for _ in range(CASES if lists else 5 * CASES):
+            yield self.arguments(params, self.random.choice(self.pools))
+        for at, ty in enumerate(params if not lists else []):
+            for edge in EDGES + WIDE if isinstance(ty, Int) else []:
+                made = self.arguments(params, self.random.choice(self.pools))
+                made[at] = (edge % 2 ** ty.bits, packed(64, [edge % 2 ** ty.bits]))
+                yield made
+
     def cases(self):
         """What the C program reads, and what it must print."""
         read, lines, seen = [], [], self.watched()
         self.machine.taken.clear()
         for number, path in enumerate(self.paths):
-            params = self.file.program.signature(path)[1]
-            for _ in range(CASES if any(isinstance(ty, Slice) for ty in params) else 5 * CASES):
-                pool = self.random.choice(self.pools)
-                seen[path].append(self.arguments(params, pool))
-            for made in seen[path]:
+            for made in [*seen[path], *self.given(path)]:
                 given, line = self.case(number, path, made)
                 read.append(given)
                 lines.append(line)
-            for given, line in self.search(number, path, params):
+            for given, line in self.search(number, path, self.file.program.signature(path)[1]):
                 read.append(given)
                 lines.append(line)
         return b"".join(read), "\n".join(lines) + "\n"
