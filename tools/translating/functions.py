@@ -91,8 +91,16 @@ class Functions:
                         block.numbers[value] = self.random.randrange(5)  # perhaps the kind of a record
                 if step % 8 == 7:
                     pools.append(list(block.numbers))
+        # three bins on the chain
+        block = Block(8, [self.random.randrange(256) for _ in range(768)])
+        lent = ((block, 0), 768)
+        self.machine.call("serving::laying_out::lay_out", [lent, 768])
+        taken = [self.machine.call("grant::take", [lent, size])[1] for size in (68, 68, 76, 68, 100, 68)]
+        for offset in taken[::2]:
+            self.machine.call("serving::give_back", [lent, offset])
+        pools += [list(block.numbers)] * 8
         # and some cut off, with no more than the header and the false block, or less
-        short = [pool[:length] for pool, length in zip(pools, [168, 167, 164, 169, 172, 8, 4])]
+        short = [pool[:length] for pool, length in zip(pools, [168, 168, 168, 168, 168, 168, 167, 164, 169, 172, 8, 4])]
         damaged = []
         for pool in pools * 2:
             pool = list(pool)
@@ -100,7 +108,19 @@ class Functions:
                 at = 4 * self.random.choice([self.random.randrange(42), self.random.randrange(len(pool) // 4)])
                 pool[at:at + 4] = struct.pack("<I", self.random.choice([self.number_in(pool), self.random.getrandbits(32)]))
             damaged.append(pool)
-        return pools + damaged + short
+        return pools + damaged + short + [ring for ring in map(self.ring, pools) if ring]
+
+    def ring(self, pool):
+        """The pool with the last bin of its chain linked back to the first, if it has two."""
+        chain, at = [], 96
+        while self.word(pool, at + 64):
+            at = (at + self.word(pool, at + 64)) % 2 ** 32
+            chain.append(at)
+        if len(chain) < 2:
+            return None
+        pool = list(pool)
+        pool[at + 64:at + 68] = struct.pack("<I", (chain[0] - at) % 2 ** 32)
+        return pool
 
     def number_in(self, pool):
         """A number that means something in the pool: a start, an offset, a size, a head."""
@@ -110,7 +130,7 @@ class Functions:
             return self.random.choice(EDGES)
         found = [self.word(pool, 16), self.word(pool, 24), len(pool), len(pool) - 4, len(pool) - 8]
         for at, head in self.blocks(pool):
-            found += [at, at, at + 4, head >> 2, (head >> 2) - 4, head]
+            found += [at, at, at, at, at + 4, head >> 2, (head >> 2) - 4, head]
         return self.random.choice(found)
 
     @staticmethod
@@ -128,16 +148,22 @@ class Functions:
 
     def arguments(self, params, pool):
         """Each with the bytes that the C program reads for it. The first list of bytes is mostly the pool, and a later one a record's body; beside a bank a
-        number is mostly a piston's."""
-        made, lists = [], 0
+        number is mostly a piston's; and sometimes two numbers are the starts of two blocks, the lower one first, as a walk has them."""
+        made, lists, walk = [], 0, []
         if self.random.random() < 0.15:
             pool = self.few()
+        elif self.random.random() < 0.3:
+            starts = [at for at, _ in self.blocks(pool)]
+            walk = sorted(self.random.sample(starts, 2)) if len(starts) > 1 else []
         for ty in params:
             if isinstance(ty, Slice) and ty.of == Int(8):
                 lists += 1
                 made.append(self.lent(8, pool if lists == 1 else self.few()))
             elif ty == Int(32) and any(isinstance(other, Ref) for other in params) and self.random.random() < 0.7:
                 number = self.random.choice([0, 1, 2, 3, 4, 31, 32])
+                made.append((number, packed(64, [number])))
+            elif ty == Int(32) and walk:
+                number = walk.pop(0)
                 made.append((number, packed(64, [number])))
             else:
                 made.append(self.make(ty, pool))
