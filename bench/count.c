@@ -137,13 +137,42 @@ static void banks(void) {
             one_bank_call(&consoles[c], &bank_calls[b]);
 }
 
-static void tape(void) {
+static void tape(uint32_t layout) {
     for (int l = 0; l < LIBRARIES; l++) {
         memset(pool, 0, sizeof pool);
         for (int i = 0; i < 13; i++)
-            COUNTED(serve(libraries[l], pool, &worked_tape[i]));
-        done("tape", "", libraries[l]->name, 13);
+            COUNTED(serve(libraries[l], pool, layout, &worked_tape[i]));
+        done("tape", layout == 1 ? "layout 1" : "layout 2", libraries[l]->name, 13);
     }
+}
+
+// A take that looks for a bin, beside an inspection of the pool that it meets: of a size above all bins, which nothing gives, and of the
+// middle bin's size, which that bin gives.
+static void one_find(uint32_t bins, uint32_t layout, const char *what, uint32_t size, uint32_t refusal) {
+    char more[100];
+    size_t n;
+    build_bins(image, &n, bins, layout);
+    for (int l = 0; l < LIBRARIES; l++) {
+        uint64_t answer;
+        memcpy(pool, image, n);
+        COUNTED(libraries[l]->inspect(pool, n));
+        snprintf(more, sizeof more, "%u | %u | %s inspection", bins, layout, libraries[l]->name);
+        done("find", what, more, 1);
+        COUNTED(answer = libraries[l]->take(pool, n, size));
+        snprintf(more, sizeof more, "%u | %u | %s", bins, layout, libraries[l]->name);
+        done("find", what, more, 1);
+        if (answer >> 32 != refusal)
+            abort();
+    }
+}
+
+static void finds(void) {
+    static const uint32_t counts[] = {10, 50, 111};
+    for (int c = 0; c < 3; c++)
+        for (uint32_t layout = 1; layout <= 2; layout++) {
+            one_find(counts[c], layout, "past all bins, refused", 68 + 8 * counts[c], POOL_NO_ROOM);
+            one_find(counts[c], layout, "the middle bin, taken", 68 + 8 * (counts[c] / 2), POOL_DONE);
+        }
 }
 
 // ---- the requests of a console, served by four allocators; takes and give-backs are counted apart
@@ -157,7 +186,7 @@ static int counts(int part, const struct request *r) { return (part == OF_TAKES)
 
 // The proved library's call, or where `inspection` is set only the inspection that it begins with.
 static void by_proved(int part, int inspection) {
-    pool_lay_out(pool, LARGEST);
+    pool_lay_out(pool, LARGEST, 1);
     for (int i = 0; i < REQUESTS; i++) {
         const struct request *r = &requests[i];
         uint64_t answer;
@@ -177,7 +206,7 @@ static void by_proved(int part, int inspection) {
 }
 
 static void by_plain(int part) {
-    plain_lay_out(pool, LARGEST);
+    plain_lay_out(pool, LARGEST, 1);
     for (int i = 0; i < REQUESTS; i++) {
         const struct request *r = &requests[i];
         uint64_t answer;
@@ -257,7 +286,7 @@ static void served(void) {
 void count(void) {
     // a call of each library first, so that the loader's work is done
     for (int l = 0; l < LIBRARIES; l++)
-        libraries[l]->inspect(pool, libraries[l]->lay_out(pool, LARGEST));
+        libraries[l]->inspect(pool, libraries[l]->lay_out(pool, LARGEST, 1));
     COUNT_FROM_HERE;
     requests_alone();
     inspections(LARGEST);
@@ -265,7 +294,9 @@ void count(void) {
     for (int o = 0; o < OPERATIONS; o++)
         one_operation(&operations[o]);
     countings();
+    finds();
     banks();
-    tape();
+    tape(1);
+    tape(2);
     served();
 }

@@ -18,11 +18,11 @@ const struct library file = {
 };
 const struct library *const libraries[LIBRARIES] = {&proved, &plain, &file};
 
-void serve(const struct library *library, uint8_t *pool, const struct call *call) {
+void serve(const struct library *library, uint8_t *pool, uint32_t layout, const struct call *call) {
     uint32_t figures[7];
     uint64_t answer = 0;
     switch (call->kind) {
-    case 'L': answer = library->lay_out(pool, call->number); break;
+    case 'L': answer = library->lay_out(pool, call->number, layout); break;
     case 'T': answer = library->take(pool, 1024, call->number); break;
     case 'G': answer = library->give_back(pool, 1024, call->number); break;
     case 'S': library->figures(pool, 1024, figures, 7); return;

@@ -1,4 +1,4 @@
-// The pool and the piston bank in plain C. The bytes are drawn in crates/paper/src/layout.rt.
+// The pool and the piston bank in plain C. The bytes of both layouts are drawn in docs/FORMAT.md.
 //
 // Inspection believes nothing before it was tested, so the calls after it read and write without a test of their own.
 #include "plain.h"
@@ -10,8 +10,8 @@
 #endif
 
 enum { FREE_WORD = 0, FALSE_WORD = 8, START = 16, END = 24, SMALL_BINS = 24, FALSE_BLOCK = 96, BLOCKS = 168 };
-enum { SMALL_NEXT = 4, PREVIOUS = 4, NEXT = 8, LEVEL = 12, CHAIN = 64, LARGE = 72 };
-enum { NOT_ALLOWED = 1, NOT_SOUND, NO_SIZE, NO_ROOM, NOT_HELD, LIST_LENGTH };
+enum { SMALL_NEXT = 4, PREVIOUS = 4, NEXT = 8, LEVEL = 12, CHAIN = 64, LARGE = 72, LEVELS = 13 };
+enum { NOT_ALLOWED = 1, NOT_SOUND, NO_SIZE, NO_ROOM, NOT_HELD, LIST_LENGTH, NO_LAYOUT = 8 };
 enum { NO_PISTON = 10, NO_RECORD, NOT_NAMED };
 enum { HELD = 1, P = 2, LEAST_POOL = 176, GREATEST_POOL = 65536, CLASSES = 53, PISTONS = 32 };
 
@@ -24,6 +24,20 @@ static inline uint32_t word(const uint8_t *pool, uint32_t at) {
 static inline void put(uint8_t *pool, uint32_t at, uint32_t v) { memcpy(pool + at, &v, 4); }
 
 static inline uint64_t refused(uint32_t number) { return (uint64_t)number << 32; }
+
+// ---- the index over the bins: of one level in layout 1, of thirteen in layout 2
+
+// The false block's level word, which tells the layouts apart.
+static inline uint32_t levels_of(const uint8_t *pool) { return word(pool, FALSE_BLOCK + LEVEL); }
+
+// How many levels a bin of this size reaches.
+static inline uint32_t height(uint32_t levels, uint32_t size) {
+    uint32_t h = 1 + (uint32_t)__builtin_ctz(size / 8);
+    return h < levels ? h : levels;
+}
+
+// Where the index word of a level, counted from 0, stands in a block: each higher one 4 bytes before.
+static inline uint32_t index_word(uint32_t level) { return CHAIN - 4 * level; }
 
 // ---- inspection
 
@@ -65,10 +79,11 @@ static bool header_ok(const uint8_t *pool, size_t n) {
         return false;
     if (word(pool, start) != 4 * (end - start) + P)
         return false;
-    if (word(pool, FALSE_WORD) != FALSE_BLOCK || word(pool, FALSE_BLOCK + LEVEL) != 1)
+    if (word(pool, FALSE_WORD) != FALSE_BLOCK || (levels_of(pool) != 1 && levels_of(pool) != LEVELS))
         return false;
-    return !(any(pool, 4, FALSE_BLOCK, 8) | any(pool, FALSE_BLOCK, FALSE_BLOCK + LEVEL, 4) |
-             any(pool, FALSE_BLOCK + LEVEL + 4, FALSE_BLOCK + CHAIN, 4) | word(pool, FALSE_BLOCK + CHAIN + 4));
+    // in layout 2 the words from +16 on are the index's
+    uint32_t reserved = levels_of(pool) == 1 ? any(pool, FALSE_BLOCK + LEVEL + 4, FALSE_BLOCK + CHAIN, 4) : 0;
+    return !(any(pool, 4, FALSE_BLOCK, 8) | any(pool, FALSE_BLOCK, FALSE_BLOCK + LEVEL, 4) | reserved | word(pool, FALSE_BLOCK + CHAIN + 4));
 }
 
 // What the free blocks of the runs come to.
@@ -141,18 +156,36 @@ static bool large_bin_ok(const uint8_t *pool, size_t n, struct marks *m, uint32_
     }
 }
 
+// What the index word of a block at a level leads to, 0 for none; false where it leads to 0.
+static inline bool due_after(const uint8_t *pool, uint32_t f, uint32_t level, uint32_t *due) {
+    uint32_t on = word(pool, f + index_word(level));
+    *due = on ? f + on : 0;
+    return f + on != 0;
+}
+
+// Along the lowest level. For each level above, `due` has the start that must come next there: a first block must be the one that is due at all
+// levels that it reaches, and says what is due then.
 static bool large_bins_ok(const uint8_t *pool, size_t n, struct marks *m, uint32_t *left) {
-    uint32_t f = FALSE_BLOCK, below = LARGE - 1;
+    uint32_t due[LEVELS], levels = levels_of(pool), f = FALSE_BLOCK, below = LARGE - 1;
+    for (uint32_t level = 1; level < levels; level++)
+        if (!due_after(pool, f, level, &due[level]))
+            return false;
     for (uint32_t on = word(pool, f + CHAIN); on != 0; on = word(pool, f + CHAIN)) {
         f += on;
         // a start that is not marked could have words past the pool's end
         if (f >= n || f % 8 != 0 || !(m->bits[f / 512] >> f / 8 % 64 & 1))
             return false;
-        uint32_t z = word(pool, f) / 4;
-        if (z <= below || word(pool, f + LEVEL) != 1 || !large_bin_ok(pool, n, m, z, f, left))
+        uint32_t z = word(pool, f) / 4, h = levels == 1 ? 1 : height(levels, z);
+        if (z <= below || word(pool, f + LEVEL) != h || !large_bin_ok(pool, n, m, z, f, left))
             return false;
+        for (uint32_t level = 1; level < h; level++)
+            if (due[level] != f || !due_after(pool, f, level, &due[level]))
+                return false;
         below = z;
     }
+    for (uint32_t level = 1; level < levels; level++)
+        if (due[level] != 0)
+            return false;
     return true;
 }
 
@@ -201,17 +234,35 @@ static inline void put_free(uint8_t *pool, uint32_t q, uint32_t size) {
 
 // ---- the bins of large blocks
 
-// The last bin's first block that is smaller than `size`; the next one, 0 where there is none, goes to *first.
-static uint32_t find(const uint8_t *pool, uint32_t before, uint32_t size, uint32_t *first) {
-    uint32_t f;
-    while ((f = linked(pool, before, CHAIN)) != 0 && size_at(pool, f) < size)
-        before = f;
-    *first = f;
-    return before;
+// The first block of the smallest bin of `size` or more, 0 where there is none. For each level the last block before it goes to `before`: the
+// false block, or the first block of a bin that is smaller. From the top down, along each level as far as bins are smaller; on a level that
+// only greater sizes reach there is none to pass. It starts at `at`, which is the false block, or in layout 1 a smaller bin.
+static uint32_t find(const uint8_t *pool, uint32_t at, uint32_t size, uint32_t before[LEVELS]) {
+    uint32_t next = 0, level = levels_of(pool), reached = 32 - (uint32_t)__builtin_clz(size / 8);
+    while (level > reached)
+        before[--level] = FALSE_BLOCK;
+    while (level-- > 0) {
+        while ((next = linked(pool, at, index_word(level))) != 0 && size_at(pool, next) < size)
+            at = next;
+        before[level] = at;
+    }
+    return next;
+}
+
+// Puts q, the first block of a bin, into the index in the place of `old`, which led on from there; where `old` is 0, between each of
+// `before` and what it led to.
+static void put_first(uint8_t *pool, uint32_t q, uint32_t size, uint32_t old, const uint32_t before[LEVELS]) {
+    uint32_t h = height(levels_of(pool), size);
+    put(pool, q + LEVEL, h);
+    for (uint32_t level = 0; level < h; level++) {
+        uint32_t at = index_word(level);
+        put(pool, q + at, link_word(q, linked(pool, old ? old : before[level], at)));
+        put(pool, before[level] + at, q - before[level]);
+    }
 }
 
 static void enter(uint8_t *pool, uint32_t q, uint32_t size) {
-    uint32_t first, before = find(pool, FALSE_BLOCK, size, &first);
+    uint32_t before[LEVELS], first = find(pool, FALSE_BLOCK, size, before);
     if (first != 0 && size_at(pool, first) == size) {
         uint32_t next = linked(pool, first, NEXT);
         put(pool, first + NEXT, q - first);
@@ -223,9 +274,7 @@ static void enter(uint8_t *pool, uint32_t q, uint32_t size) {
     }
     put(pool, q + PREVIOUS, 0);
     put(pool, q + NEXT, 0);
-    put(pool, q + LEVEL, 1);
-    put(pool, q + CHAIN, link_word(q, first));
-    put(pool, before + CHAIN, q - before);
+    put_first(pool, q, size, 0, before);
 }
 
 static void leave_later(uint8_t *pool, uint32_t previous, uint32_t q) {
@@ -235,25 +284,27 @@ static void leave_later(uint8_t *pool, uint32_t previous, uint32_t q) {
         put(pool, next + PREVIOUS, previous - next);
 }
 
-static void leave_first(uint8_t *pool, uint32_t before, uint32_t q) {
-    uint32_t second = linked(pool, q, NEXT), after = linked(pool, q, CHAIN);
-    if (second == 0) {
-        put(pool, before + CHAIN, link_word(before, after));
+static void leave_first(uint8_t *pool, const uint32_t before[LEVELS], uint32_t q) {
+    uint32_t second = linked(pool, q, NEXT), size = size_at(pool, q);
+    if (second != 0) {
+        put(pool, second + PREVIOUS, 0);
+        put_first(pool, second, size, q, before);
         return;
     }
-    put(pool, second + PREVIOUS, 0);
-    put(pool, second + LEVEL, 1);
-    put(pool, second + CHAIN, link_word(second, after));
-    put(pool, before + CHAIN, second - before);
+    uint32_t h = height(levels_of(pool), size);
+    for (uint32_t level = 0; level < h; level++) {
+        uint32_t at = index_word(level);
+        put(pool, before[level] + at, link_word(before[level], linked(pool, q, at)));
+    }
 }
 
 static void leave(uint8_t *pool, uint32_t q) {
-    uint32_t previous = linked(pool, q, PREVIOUS);
+    uint32_t before[LEVELS], previous = linked(pool, q, PREVIOUS);
     if (previous != 0) {
         leave_later(pool, previous, q);
         return;
     }
-    uint32_t first, before = find(pool, FALSE_BLOCK, size_at(pool, q), &first);
+    find(pool, FALSE_BLOCK, size_at(pool, q), before);
     leave_first(pool, before, q);
 }
 
@@ -277,7 +328,7 @@ static uint64_t take_small(uint8_t *pool, uint32_t b) {
 }
 
 // The block of the bin at `first` that is used, taken out of it: the second, where there is one.
-static uint32_t leave_bin(uint8_t *pool, uint32_t before, uint32_t first) {
+static uint32_t leave_bin(uint8_t *pool, const uint32_t before[LEVELS], uint32_t first) {
     uint32_t second = linked(pool, first, NEXT);
     if (second != 0) {
         leave_later(pool, first, second);
@@ -288,11 +339,11 @@ static uint32_t leave_bin(uint8_t *pool, uint32_t before, uint32_t first) {
 }
 
 static uint64_t take_large(uint8_t *pool, uint32_t b) {
-    uint32_t q, first, before = find(pool, FALSE_BLOCK, b, &first);
+    uint32_t before[LEVELS], q, first = find(pool, FALSE_BLOCK, b, before);
     if (first != 0 && size_at(pool, first) == b) {
         q = leave_bin(pool, before, first);
         put(pool, q + b, word(pool, q + b) | P);
-    } else if (before = find(pool, before, b + LARGE, &first), first != 0) {
+    } else if (first != 0 && (first = find(pool, levels_of(pool) == 1 ? before[0] : (uint32_t)FALSE_BLOCK, b + LARGE, before)) != 0) {
         uint32_t z = size_at(pool, first);
         q = leave_bin(pool, before, first);
         put_free(pool, q + b, z - b);
@@ -349,13 +400,11 @@ static void give_back_small(uint8_t *pool, uint32_t q, uint32_t z) {
 // Both neighbours leave. The one that leaves first may store into the other, whose words are no longer governed
 // afterwards and must stay as they were.
 static void leave_both(uint8_t *pool, uint32_t below, uint32_t above) {
-    uint8_t links[12];
-    uint32_t chain = word(pool, above + CHAIN);
-    memcpy(links, pool + above + PREVIOUS, 12);
+    uint8_t links[CHAIN + 4 - PREVIOUS];
+    memcpy(links, pool + above + PREVIOUS, sizeof links);
     leave(pool, below);
     leave(pool, above);
-    memcpy(pool + above + PREVIOUS, links, 12);
-    put(pool, above + CHAIN, chain);
+    memcpy(pool + above + PREVIOUS, links, sizeof links);
 }
 
 static void give_back_large(uint8_t *pool, uint32_t q, uint32_t z) {
@@ -402,16 +451,18 @@ uint64_t plain_give_back(uint8_t *pool, size_t n, uint32_t offset) {
 
 // ---- the other calls
 
-uint64_t plain_lay_out(uint8_t *pool, size_t n) {
+uint64_t plain_lay_out(uint8_t *pool, size_t n, uint32_t layout) {
     if (!allowed(n))
         return refused(NOT_ALLOWED);
+    if (layout != 1 && layout != 2)
+        return refused(NO_LAYOUT);
     uint32_t rest = n - BLOCKS;
     memset(pool, 0, BLOCKS);
     put(pool, FREE_WORD, rest - 4);
     put(pool, FALSE_WORD, FALSE_BLOCK);
     put(pool, START, BLOCKS);
     put(pool, END, n);
-    put(pool, FALSE_BLOCK + LEVEL, 1);
+    put(pool, FALSE_BLOCK + LEVEL, layout == 1 ? 1 : LEVELS);
     put(pool, BLOCKS, 4 * rest + P);
     return n;
 }
@@ -477,7 +528,7 @@ uint64_t plain_figures(const uint8_t *pool, size_t n, uint32_t *figures, size_t 
     tally(pool, end, n, figures);
     if (figures[6])
         figures[6] -= 4;
-    return n;
+    return figures[0];
 }
 
 // The least class of a payload: class k has size (4 + k mod 4) × 2^(k div 4 + 1). The three top bits of payload - 1 and their place name the

@@ -46,13 +46,13 @@ static uint32_t record_size(void) {
     return 160 + random_below(241);
 }
 
-// ---- the five shapes
+// ---- the shapes
 
-static void fresh(uint8_t *pool, size_t n) { plain_lay_out(pool, n); }
+static void fresh(uint8_t *pool, size_t n) { plain_lay_out(pool, n, 1); }
 
 static void full(uint8_t *pool, size_t n) {
     uint32_t offset;
-    plain_lay_out(pool, n);
+    plain_lay_out(pool, n, 1);
     while (take(pool, n, 4, &offset))
         continue;
 }
@@ -61,7 +61,7 @@ static void full(uint8_t *pool, size_t n) {
 static void free_small(uint8_t *pool, size_t n) {
     uint32_t count = 0;
     state = 3;
-    plain_lay_out(pool, n);
+    plain_lay_out(pool, n, 1);
     while (take(pool, n, 4 + 8 * random_below(8), &offsets[count]))
         count++;
     shuffle(offsets, count);
@@ -70,10 +70,10 @@ static void free_small(uint8_t *pool, size_t n) {
 }
 
 // A free large block of each size from 72 on, as many as there is room for, each above a held one of 72 bytes.
-static void many_bins(uint8_t *pool, size_t n) {
+static void bins_in(uint8_t *pool, size_t n, uint32_t layout) {
     uint32_t count = 0, guard;
     state = 4;
-    plain_lay_out(pool, n);
+    plain_lay_out(pool, n, layout);
     while (take(pool, n, 68, &guard) && take(pool, n, 68 + 8 * count, &offsets[count]))
         count++;
     take(pool, n, 68, &guard);
@@ -82,11 +82,25 @@ static void many_bins(uint8_t *pool, size_t n) {
         give_back(pool, n, offsets[i]);
 }
 
+static void many_bins(uint8_t *pool, size_t n) { bins_in(pool, n, 1); }
+static void many_bins_2(uint8_t *pool, size_t n) { bins_in(pool, n, 2); }
+
+// 168 bytes, the free blocks and the held one below each, one held at the top, and a remainder of 8.
+void build_bins(uint8_t *pool, size_t *n, uint32_t bins, uint32_t layout) {
+    uint32_t figures[7];
+    *n = 168 + 72 + 8;
+    for (uint32_t i = 0; i < bins; i++)
+        *n += 72 + 72 + 8 * i;
+    bins_in(pool, *n, layout);
+    if (plain_figures(pool, *n, figures, 7) >> 32 || figures[3] != bins || figures[4] != 8)
+        abort();
+}
+
 // Records come and go until three quarters of the pool were once used.
 static void console(uint8_t *pool, size_t n) {
     uint32_t count = 0, figures[7];
     state = 5;
-    plain_lay_out(pool, n);
+    plain_lay_out(pool, n, 1);
     do {
         if (count > 2 && random_below(5) < 2) {
             uint32_t i = random_below(count);
@@ -105,6 +119,7 @@ const struct shape shapes[SHAPES] = {
     {"many free small blocks", free_small},
     {"many free large bins", many_bins},
     {"mixed console", console},
+    {"many free large bins, layout 2", many_bins_2},
 };
 
 // ---- the operations
@@ -153,6 +168,9 @@ const struct operation operations[OPERATIONS] = {
     {"take 200", 4, 0, size_200},
     {"give back a small record", 4, 1, middle_small},
     {"give back a large record", 4, 1, middle_large},
+    {"take 476, a bin of its size", 5, 0, size_480},
+    {"take 476, a larger block split", 5, 0, size_480_again},
+    {"give back, joined below and above", 5, 1, middle_large},
 };
 
 // ---- requests for every allocator

@@ -4,7 +4,7 @@
 #include <stddef.h>
 #include <stdint.h>
 
-enum { SHAPES = 5, OPERATIONS = 12, REQUESTS = 4000, RECORDS = 200, LARGEST = 65536 };
+enum { SHAPES = 6, OPERATIONS = 15, REQUESTS = 4000, RECORDS = 200, LARGEST = 65536 };
 
 struct shape {
     const char *name;
@@ -21,13 +21,17 @@ struct operation {
 };
 extern const struct operation operations[OPERATIONS];
 
+// A pool of just so many free large bins, one free block in each, whose remainder is too small to give anything; its length goes to *n. The
+// bins' sizes are 72, 80, 88 and so on.
+void build_bins(uint8_t *pool, size_t *n, uint32_t bins, uint32_t layout);
+
 // Request i takes `size` bytes for its record, or gives the record back where the size is 0.
 struct request {
     uint32_t record, size;
 };
 void make_requests(struct request *requests);
 
-// The worked tape's calls: kind L, T, G or S and its number.
+// The worked tape's calls: kind L, T, G or S and its number. Laying out is done with either layout.
 struct call {
     char kind;
     uint32_t number, value;

@@ -47,17 +47,17 @@ static int record(uint8_t kind) {
         figures();
         return 1;
     }
-    if (kind < 1 || kind > 4 || !number(&v))
+    if (kind < 1 || kind > 5 || !number(&v))
         return 0;
     if (kind == 2)
         line('T', CALL(take)(pool, n, v));
     if (kind == 3)
         line('G', CALL(give_back)(pool, n, v));
-    if (kind == 1) {
-        // a refused L keeps the old pool
-        uint64_t answer = v <= ROOM ? CALL(lay_out)(pool, v) : (uint64_t)1 << 32;
+    if (kind == 1 || kind == 5) {
+        // a refused L or M keeps the old pool
+        uint64_t answer = v <= ROOM ? CALL(lay_out)(pool, v, kind == 1 ? 1 : 2) : (uint64_t)1 << 32;
         n = number_of(answer) ? n : v;
-        line('L', answer);
+        line(kind == 1 ? 'L' : 'M', answer);
     }
     return 1;
 }
@@ -163,7 +163,7 @@ static int command(int letter) {
         n = v;
         printf("I 0 %u", v);
         return 1;
-    case 'L': line('L', CALL(lay_out)(pool, n)); return 1;
+    case 'L': line('L', CALL(lay_out)(pool, n, 1)); return 1;
     case 'N': line('N', CALL(inspect)(pool, n)); return 1;
     case 'S': figures(); return 1;
     case 'D':
@@ -185,9 +185,10 @@ static int command(int letter) {
             printf(" %u", counts[i]);
         return 1;
     }
-    if (letter == 0 || !strchr("TGAPW", letter) || !number(&v))
+    if (letter == 0 || !strchr("MTGAPW", letter) || !number(&v))
         return 0;
     switch (letter) {
+    case 'M': line('M', CALL(lay_out)(pool, n, v)); return 1;
     case 'T': line('T', CALL(take)(pool, n, v)); return 1;
     case 'G': line('G', CALL(give_back)(pool, n, v)); return 1;
     case 'A': line('A', CALL(ask)(pool, n, v)); return 1;

@@ -15,7 +15,7 @@ static size_t length;
 static uint8_t kind;
 
 static void empty(void) {}
-static void lay_out(void) { pool_lay_out(pool, LARGEST); }
+static void lay_out(void) { pool_lay_out(pool, LARGEST, 2); }
 static void inspect(void) { pool_inspect(pool, LARGEST); }
 static void take(void) { pool_take(pool, LARGEST, argument); }
 static void give_back(void) { pool_give_back(pool, LARGEST, argument); }

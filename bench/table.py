@@ -4,7 +4,7 @@
                            the counts: valgrind's dumps, or the lines of steps.
                            In DOCS/BENCH.md only what stands between the two marker lines is replaced.
 
-Ends with status 1, after it has written both, where a call of the piston bank costs more than it may.
+Ends with status 1, after it has written both, where a call of the piston bank or layout 2 costs more than it may.
 """
 
 import glob
@@ -18,6 +18,10 @@ GOAL = 1.25
 FILE_GOAL = 1.15
 # What the bank's calls may cost at most on this pool with all its pistons set, in inspections of it.
 CONSOLE, MOST = ("mixed console", "65536"), {"set": 5, "recall": 3}
+# What layout 2 may cost at most on the pool that it is for, the proved library's and less their inspection: takes and give-backs as a part of
+# layout 1's; its inspection as a multiple of layout 1's. Against plain C the inspection has the goal above.
+BINS, BINS_2 = "many free large bins", "many free large bins, layout 2"
+CALLS_PART, INSPECTION_PART = 0.5, 1.4
 FILE = ["C file", "C file over proved"]
 BEGIN, END = "<!-- measured: begin -->", "<!-- measured: end -->"
 
@@ -164,6 +168,46 @@ class Report:
                              *self.file(("bank", name, *console))])
         return table(["Call", "Proved", "In inspections", "Plain C", "Ratio", *FILE], rows)
 
+    def less_inspection(self, name, shape, who):
+        key = ("operation", name, shape)
+        return self.count[(*key, who)] - self.count[(*key, who + " inspection")]
+
+    def on_both_layouts(self):
+        """For the inspection, and for each call less its inspection: its name, and for both libraries what it costs on layout 1 and on layout 2."""
+        yield "inspection", [[self.count["inspect", shape, "65536", who] for shape in (BINS, BINS_2)] for who in ("proved", "plain")]
+        for name in sorted(key[1] for key in self.count if key[0] == "operation" and key[2:] == (BINS_2, "proved")):
+            yield name, [[self.less_inspection(name, shape, who) for shape in (BINS, BINS_2)] for who in ("proved", "plain")]
+
+    def layouts(self):
+        rows = []
+        for name, (ours, theirs) in self.on_both_layouts():
+            goal = INSPECTION_PART if name == "inspection" else CALLS_PART
+            rows.append([name if name == "inspection" else name + ", less inspection",
+                         *map(number, ours), as_text(ours[1] / ours[0], goal), *map(number, theirs), as_text(theirs[1] / theirs[0], goal),
+                         ratio(ours[1], theirs[1])])
+        return table(["Call", "Proved, layout 1", "Layout 2", "2 over 1", "Plain C, layout 1", "Layout 2", "2 over 1", "Layout 2, proved over plain C"], rows)
+
+    def limits_of_layouts(self):
+        """Sentence, cost, and what it may be."""
+        found = dict(self.on_both_layouts())
+        ours, theirs = found.pop("inspection")
+        yield "The inspection of layout 2 costs {} times layout 1's", ours[1] / ours[0], INSPECTION_PART
+        yield "The inspection of layout 2 costs {} times plain C's", ours[1] / theirs[1], GOAL
+        for name, (ours, _) in found.items():
+            yield f"On layout 2 \"{name}\" costs {{}} times layout 1's, less inspection", ours[1] / ours[0], CALLS_PART
+
+    def finds(self):
+        rows = []
+        for what in unique(key[1] for key in self.count if key[0] == "find"):
+            for bins in unique(key[2] for key in self.count if key[:2] == ("find", what)):
+                row = [what, bins]
+                for who in ("proved", "plain"):
+                    one, two = (self.count["find", what, bins, layout, who] - self.count["find", what, bins, layout, who + " inspection"]
+                                for layout in ("1", "2"))
+                    row += [number(one), number(two), ratio(two, one)]
+                rows.append(row)
+        return table(["Take", "Bins", "Proved, layout 1", "Layout 2", "2 over 1", "Plain C, layout 1", "Layout 2", "2 over 1"], rows)
+
     def dearest(self):
         """What the dearest set and the dearest recall cost in inspections, and what they may cost."""
         for call, most in MOST.items():
@@ -184,10 +228,11 @@ class Report:
         return table(["What", "Proved, ns", "Plain C, ns", "Ratio"], rows)
 
     def tape(self):
-        ours, theirs = (13 * self.count["tape", "", who] for who in ("proved", "plain"))
-        return table(["Run", "Proved", "Plain C", "Ratio", *FILE],
-                     [["the worked tape, 13 calls", number(ours), number(theirs), self.bar("the worked tape", ours, theirs),
-                       *self.file(("tape", ""), 13)]])
+        rows = []
+        for layout, name in (("layout 1", "the worked tape"), ("layout 2", "the worked tape on layout 2")):
+            ours, theirs = (13 * self.count["tape", layout, who] for who in ("proved", "plain"))
+            rows.append([name + ", 13 calls", number(ours), number(theirs), self.bar(name, ours, theirs), *self.file(("tape", layout), 13)])
+        return table(["Run", "Proved", "Plain C", "Ratio", *FILE], rows)
 
     def served(self):
         rows = []
@@ -209,6 +254,10 @@ class Report:
         out += ["### Inspection: instructions per KiB of a pool of 65,536 bytes", ""] + self.inspection(65536)
         out += ["### Inspection: instructions for a pool of 1,024 bytes", ""] + self.inspection(1024)
         out += ["### Taking and giving back: instructions a call, a pool of 65,536 bytes", ""] + self.operations()
+        out += ["### Layout 2 against layout 1: instructions a call, many free large bins, a pool of 65,536 bytes", ""] + self.layouts()
+        for sentence, cost, most in self.limits_of_layouts():
+            out.append(sentence.format(as_text(cost, most)) + f", and may cost {most}.")
+        out += ["", "### Finding a bin: instructions of a take, less an inspection of its pool", ""] + self.finds()
         out += ["### Figures and class count: instructions a call, a pool of 65,536 bytes", ""] + self.countings()
         out += ["### The piston bank: instructions a call, the mixed console of 65,536 bytes with 32 pistons set", ""] + self.bank()
         for call, cost, most in self.dearest():
@@ -265,6 +314,7 @@ def main():
     print(measured)
     dear = [f"a {call} costs {as_text(cost, most)} inspections, and may cost {most}"
             for call, cost, most in report.dearest() if cost > most]
+    dear += [sentence.format(as_text(cost, most)) + f", and may cost {most}" for sentence, cost, most in report.limits_of_layouts() if cost > most]
     if dear:
         sys.exit("bench/table.py: " + "; ".join(dear))
 

@@ -55,7 +55,7 @@ static void pair_times(const struct library *l, uint8_t *at, uint32_t size, int 
 static void tape_times(const struct library *l, uint8_t *at, int times) {
     for (int i = 0; i < times; i++)
         for (int c = 0; c < 13; c++)
-            serve(l, at, &worked_tape[c]);
+            serve(l, at, 1, &worked_tape[c]);
 }
 
 // How many calls take about a millisecond, by the plain library.
@@ -123,7 +123,7 @@ static uint32_t offsets[RECORDS];
 static void *places[RECORDS];
 
 static void by_plain(void) {
-    plain_lay_out(pool, LARGEST);
+    plain_lay_out(pool, LARGEST, 1);
     for (int i = 0; i < REQUESTS; i++) {
         uint32_t *offset = &offsets[requests[i].record];
         *offset = requests[i].size ? plain_take_unchecked(pool, LARGEST, requests[i].size)

@@ -3,7 +3,7 @@
    Made by tools/c99 from the checked MIR of the proved crates, with a function for each of theirs: do not edit it, edit the crates. What is
    proved is that program. That this file does the same is tested, not proved: docs/BOARD.md says how, and how to use the file.
 
-   Names say where a function comes from: bins_find is `find` of the crate bins. A slice of Rattle's is a pointer and a length, NAME and
+   Names say where a function comes from: bins_enter is `enter` of the crate bins. A slice of Rattle's is a pointer and a length, NAME and
    NAME_len; its usize is uint64_t, since the proofs are about 64 bits, whatever size_t is here. Every number is unsigned: a signed
    distance is its two's complement. A truth is 0 or 1. Bytes of the pool are read and written one by one, so neither its alignment nor
    the machine's byte order matters.
@@ -34,7 +34,9 @@
 #define PAPER_LIST_LENGTH 6u
 #define PAPER_FALSE_WORD 8u
 #define PAPER_NEXT 8u
+#define PAPER_NO_LAYOUT 8u
 #define PAPER_LEVEL 12u
+#define PAPER_LEVELS 13u
 #define PAPER_START 16u
 #define PAPER_END 24u
 #define PAPER_SMALL_BINS 24u
@@ -66,9 +68,10 @@ typedef struct {
     uint64_t left;
 } lists_Left;
 
-// A bin that was found: what stands before it on the chain, its first block, and its size. Where there is none, the last two
-// are 0. Other crates pass it on, and ask whether there is one and its size.
+// What was found for a size on a level of the index: the last block there that is smaller, the next one, and the size of that. Where there is
+// no next one, the last two are 0. Other crates pass it on, and ask whether there is one and its size.
 typedef struct {
+    uint32_t level;
     uint32_t before;
     uint32_t first;
     uint32_t size;
@@ -139,6 +142,12 @@ typedef struct {
     } as;
 } paper_Tally;
 
+// One member of a union is set, and maybe not the widest: gcc warns of that as of a value that was not set.
+#if defined(__GNUC__) && !defined(__clang__)
+#pragma GCC diagnostic push
+#pragma GCC diagnostic ignored "-Wmaybe-uninitialized"
+#endif
+
 static inline heads_Head heads_Head_of(uint32_t size, int p, int held)
 {
     heads_Head made;
@@ -173,9 +182,10 @@ static inline lists_Left lists_Left_of(int ok, uint64_t left)
     return made;
 }
 
-static inline bins_Bin bins_Bin_of(uint32_t before, uint32_t first, uint32_t size)
+static inline bins_Bin bins_Bin_of(uint32_t level, uint32_t before, uint32_t first, uint32_t size)
 {
     bins_Bin made;
+    made.level = level;
     made.before = before;
     made.first = first;
     made.size = size;
@@ -324,6 +334,10 @@ static inline paper_Tally paper_Tally_Refused(uint8_t f0)
     return made;
 }
 
+#if defined(__GNUC__) && !defined(__clang__)
+#pragma GCC diagnostic pop
+#endif
+
 // How many zero bits stand above the highest bit of x that is set; 32 where none is.
 static inline uint32_t leading_zeros(uint32_t x)
 {
@@ -345,6 +359,32 @@ static inline uint32_t leading_zeros(uint32_t x)
         x >>= 2;
     }
     return x >> 1 != 0u ? zeros - 2u : zeros - x;
+}
+
+// How many zero bits stand below the lowest bit of x that is set; 32 where none is.
+static inline uint32_t trailing_zeros(uint32_t x)
+{
+    uint32_t zeros = 0u;
+    if ((x & 0xffffu) == 0u) {
+        zeros += 16u;
+        x >>= 16;
+    }
+    if ((x & 0xffu) == 0u) {
+        zeros += 8u;
+        x >>= 8;
+    }
+    if ((x & 0xfu) == 0u) {
+        zeros += 4u;
+        x >>= 4;
+    }
+    if ((x & 0x3u) == 0u) {
+        zeros += 2u;
+        x >>= 2;
+    }
+    if ((x & 0x1u) != 0u) {
+        return zeros;
+    }
+    return x != 0u ? zeros + 1u : zeros + 2u;
 }
 
 // ---- words: little-endian words in a list of bytes, the laws once over the width; parts of such a list
@@ -441,6 +481,18 @@ static inline uint32_t heads_free_head(uint32_t size)
     return heads_together(heads_Head_of(size, 1, 0));
 }
 
+// The size alone.
+static inline uint32_t heads_size_of(uint32_t w)
+{
+    return w >> 2u;
+}
+
+// Both flags in one number, 2 x P + a, for one test of both.
+static inline uint32_t heads_flags_of(uint32_t w)
+{
+    return w & 3u;
+}
+
 // The signed distance that a word holds, in two's complement.
 static inline uint32_t heads_distance(uint32_t word)
 {
@@ -472,18 +524,6 @@ static inline uint32_t heads_follow(uint32_t from, uint32_t word)
         return 0u;
     }
     return heads_moved(from, heads_distance(word));
-}
-
-// The size alone.
-static inline uint32_t heads_size_of(uint32_t w)
-{
-    return w >> 2u;
-}
-
-// Both flags in one number, 2 x P + a, for one test of both.
-static inline uint32_t heads_flags_of(uint32_t w)
-{
-    return w & 3u;
 }
 
 // The distance from one start to another.
@@ -557,6 +597,93 @@ static inline uint32_t classes_class_of(uint32_t payload)
     uint32_t place = 29u - leading_zeros(less_one);
     uint32_t top = less_one >> place;
     return (place << 2) + top - 7u;
+}
+
+// ---- levels: how high the index over the bins is, and up to which level a bin stands in it
+
+// How high the pool's index is, which tells its layout: 13 where the false block's level word says so, else 1.
+static inline uint32_t levels_top(const unsigned char *pool, size_t pool_len)
+{
+    if (words_field(pool, pool_len, PAPER_FALSE_BLOCK, PAPER_LEVEL) == PAPER_LEVELS) {
+        return PAPER_LEVELS;
+    }
+    return 1u;
+}
+
+// Where the word of a level stands in a first block: level 1's is the chain word, and each higher one 4 bytes before. No level is above 17.
+static inline uint32_t levels_word(uint32_t level)
+{
+    if (17u < level) {
+        return 0u;
+    }
+    return (uint32_t)PAPER_CHAIN + 4u - (level << 2);
+}
+
+// Up to which level the bin of a size stands in an index `top` high: 1 and the trailing zero bits of size / 8, at most `top`.
+static inline uint32_t levels_height(uint32_t top, uint32_t size)
+{
+    if (top == 1u) {
+        return 1u;
+    }
+    uint32_t zeros = trailing_zeros(size >> 3);
+    if (zeros < top) {
+        return zeros + 1u;
+    }
+    return top;
+}
+
+// The level to look for a bin from: the least size on level j is 8 x 2^(j - 1), so no smaller bin stands higher.
+static inline uint32_t levels_start(uint32_t top, uint32_t size)
+{
+    if (top == 1u) {
+        return 1u;
+    }
+    uint32_t bits = 32u - leading_zeros(size >> 3);
+    if (bits == 0u) {
+        return top;
+    }
+    if (top < bits) {
+        return top;
+    }
+    return bits;
+}
+
+// ---- laying: a buffer is laid out, in either layout
+
+// How high the index of a layout is: of layout 1 and of layout 2; 0 of a number that names none.
+static inline uint32_t laying_top_of(uint32_t layout)
+{
+    if (layout == 1u) {
+        return 1u;
+    }
+    if (layout == 2u) {
+        return PAPER_LEVELS;
+    }
+    return 0u;
+}
+
+// The header and the false block are zeros.
+static inline void laying_clear(unsigned char *pool, size_t pool_len)
+{
+    uint64_t k = 0u;
+    while (k < 42u) {
+        words_put32(pool, pool_len, k << 2, 0u);
+        k = k + 1u;
+    }
+}
+
+// Lays the buffer out as a fresh pool of n bytes, its own length, which is allowed, with an index `top` high: after the zeros, the words that
+// are not 0. There is no bin yet, so the index words of either layout are 0.
+static inline void laying_lay_out(unsigned char *pool, size_t pool_len, uint32_t n, uint32_t top)
+{
+    uint32_t rest = words_minus(n, PAPER_BLOCKS);
+    laying_clear(pool, pool_len);
+    words_put64(pool, pool_len, PAPER_FREE_WORD, (uint64_t)words_minus(rest, 4u));
+    words_put64(pool, pool_len, PAPER_FALSE_WORD, (uint64_t)PAPER_FALSE_BLOCK);
+    words_put64(pool, pool_len, PAPER_START, (uint64_t)PAPER_BLOCKS);
+    words_put64(pool, pool_len, PAPER_END, (uint64_t)n);
+    words_put_field(pool, pool_len, PAPER_FALSE_BLOCK, PAPER_LEVEL, top);
+    words_put32(pool, pool_len, (uint64_t)PAPER_BLOCKS, heads_free_head(rest));
 }
 
 // ---- marks: a set of places as bits
@@ -637,6 +764,56 @@ static inline int header_remainder_ok(const unsigned char *pool, size_t pool_len
     return words_get32(pool, pool_len, (uint64_t)a) == heads_free_head(b - a);
 }
 
+// Whether k words from `from` on, `step` bytes apart, are 0: one test for all of them.
+static inline int header_zeros(const unsigned char *pool, size_t pool_len, uint32_t k, uint32_t step, uint32_t from)
+{
+    uint32_t all = 0u;
+    uint32_t left = k;
+    uint64_t at = (uint64_t)from;
+    while (left != 0u) {
+        all = all | words_get32(pool, pool_len, at);
+        left = left - 1u;
+        at = at + (uint64_t)step;
+    }
+    return all == 0u;
+}
+
+// The level word tells the layout: in layout 1 the twelve words between it and the chain word are 0, in layout 2 they are index words.
+static inline int header_reserved_ok(const unsigned char *pool, size_t pool_len)
+{
+    uint32_t level = words_field(pool, pool_len, PAPER_FALSE_BLOCK, 12u);
+    if (level == PAPER_LEVELS) {
+        return 1;
+    }
+    if (level != 1u) {
+        return 0;
+    }
+    return header_zeros(pool, pool_len, 12u, 4u, (uint32_t)PAPER_FALSE_BLOCK + 16u);
+}
+
+// The header's second word, the high half of all twelve, and the false block: zero, but for its level word and its index words.
+// The first test is for the machine: with it, no place below, which are all constants, asks one. So are the loops early: what stands behind many
+// tests for 0 counts as rare, and would be called, with tests of its own.
+static inline int header_false_block_ok(const unsigned char *pool, size_t pool_len)
+{
+    if (pool_len < (uint64_t)PAPER_BLOCKS) {
+        return 0;
+    }
+    if (words_get32(pool, pool_len, 8u) != PAPER_FALSE_BLOCK) {
+        return 0;
+    }
+    if (words_field(pool, pool_len, PAPER_FALSE_BLOCK, (uint32_t)PAPER_CHAIN + 4u) != 0u) {
+        return 0;
+    }
+    if (!header_zeros(pool, pool_len, 12u, 8u, 4u)) {
+        return 0;
+    }
+    if (!header_zeros(pool, pool_len, 3u, 4u, PAPER_FALSE_BLOCK)) {
+        return 0;
+    }
+    return header_reserved_ok(pool, pool_len);
+}
+
 // The word w at q is a distance as it is written; another word could lead to 0, which is no block.
 static inline int header_link_ok(uint32_t q, uint32_t w)
 {
@@ -644,58 +821,6 @@ static inline int header_link_ok(uint32_t q, uint32_t w)
         return 1;
     }
     return heads_follow(q, w) != 0u;
-}
-
-// The words that are 0: of the false block the three below its level word, and twelve between that and its chain word, in step
-// with the high halves of the header's twelve words.
-static inline int header_zeros(const unsigned char *pool, size_t pool_len)
-{
-    if (words_field(pool, pool_len, PAPER_FALSE_BLOCK, 0u) != 0u) {
-        return 0;
-    }
-    if (words_field(pool, pool_len, PAPER_FALSE_BLOCK, 4u) != 0u) {
-        return 0;
-    }
-    if (words_field(pool, pool_len, PAPER_FALSE_BLOCK, 8u) != 0u) {
-        return 0;
-    }
-    uint32_t left = 12u;
-    uint64_t half = 4u;
-    uint64_t word = 112u;
-    while (left != 0u) {
-        if (words_get32(pool, pool_len, half) != 0u) {
-            return 0;
-        }
-        if (words_get32(pool, pool_len, word) != 0u) {
-            return 0;
-        }
-        left = left - 1u;
-        half = half + 8u;
-        word = word + 4u;
-    }
-    return 1;
-}
-
-// The header's second word, the high half of all twelve, and the false block: zero, but for its level word and its chain word.
-// The first test is for the machine: with it, no place below, which are all constants, asks one.
-static inline int header_false_block_ok(const unsigned char *pool, size_t pool_len)
-{
-    if (pool_len < (uint64_t)PAPER_BLOCKS) {
-        return 0;
-    }
-    if (words_get32(pool, pool_len, PAPER_FALSE_WORD) != PAPER_FALSE_BLOCK) {
-        return 0;
-    }
-    if (words_field(pool, pool_len, PAPER_FALSE_BLOCK, PAPER_LEVEL) != 1u) {
-        return 0;
-    }
-    if (!header_link_ok(PAPER_FALSE_BLOCK, words_field(pool, pool_len, PAPER_FALSE_BLOCK, PAPER_CHAIN))) {
-        return 0;
-    }
-    if (words_field(pool, pool_len, PAPER_FALSE_BLOCK, (uint32_t)PAPER_CHAIN + 4u) != 0u) {
-        return 0;
-    }
-    return header_zeros(pool, pool_len);
 }
 
 // ---- runs: along the blocks, large and small; the free ones are marked
@@ -869,16 +994,52 @@ static inline lists_Left lists_small_bins(const unsigned char *pool, size_t pool
     return lists_Left_of(1, left);
 }
 
-// The first block f of the bin after size y: its head, its level word and its chain word.
-static inline int lists_first_ok(const unsigned char *pool, size_t pool_len, uint32_t y, uint32_t f)
+// Levels 2 to h: each awaits the block f, whose word there is a link to the next. No level is above 13.
+static inline int lists_higher_ok(const unsigned char *pool, size_t pool_len, uint32_t waits[12], uint32_t h, uint32_t f)
 {
-    if (lists_size_at(pool, pool_len, f) <= y) {
+    if (PAPER_LEVELS < h) {
         return 0;
     }
-    if (words_field(pool, pool_len, f, PAPER_LEVEL) != 1u) {
+    uint32_t level = 2u;
+    while (level <= h) {
+        uint64_t i = (uint64_t)(level - 2u);
+        if (waits[i] != f) {
+            return 0;
+        }
+        uint32_t w = words_field(pool, pool_len, f, levels_word(level));
+        if (!header_link_ok(f, w)) {
+            return 0;
+        }
+        waits[i] = heads_follow(f, w);
+        level = level + 1u;
+    }
+    return 1;
+}
+
+// The index words of the block f, which is h levels high and awaited on level 1: its chain word and, where there are any, the others.
+static inline int lists_index_ok(const unsigned char *pool, size_t pool_len, uint32_t waits[12], uint32_t h, uint32_t f)
+{
+    if (!header_link_ok(f, words_field(pool, pool_len, f, PAPER_CHAIN))) {
         return 0;
     }
-    return header_link_ok(f, words_field(pool, pool_len, f, PAPER_CHAIN));
+    if (h == 1u) {
+        return 1;
+    }
+    return lists_higher_ok(pool, pool_len, waits, h, f);
+}
+
+// The first block f, of size z, of the bin after size y, in an index `top` high: its size, its level word and its index words.
+static inline int lists_first_ok(const unsigned char *pool, size_t pool_len, uint32_t waits[12], uint32_t top, uint32_t y,
+        uint32_t z, uint32_t f)
+{
+    if (z <= y) {
+        return 0;
+    }
+    uint32_t h = levels_height(top, z);
+    if (words_field(pool, pool_len, f, PAPER_LEVEL) != h) {
+        return 0;
+    }
+    return lists_index_ok(pool, pool_len, waits, h, f);
 }
 
 // The member q after p of the large bin of size z: its mark, its head, its link back and its link on, each read when the one before has
@@ -920,17 +1081,41 @@ static inline lists_Left lists_follow_large(const unsigned char *pool, size_t po
     return lists_Left_of(1, left);
 }
 
-// The large bins, from the first block f0 on: sizes rise, and at the end no mark is left.
-static inline int lists_large_bins(const unsigned char *pool, size_t pool_len, uint64_t *m, size_t m_len, uint64_t k, uint32_t f0)
+// Whether no level from 2 on awaits anything.
+static inline int lists_none_awaited(const uint32_t waits[12])
+{
+    uint64_t i = 0u;
+    while (i < 12u) {
+        if (waits[i] != 0u) {
+            return 0;
+        }
+        i = i + 1u;
+    }
+    return 1;
+}
+
+// At the end no level awaits anything; an index one level high has no others.
+static inline int lists_ended_ok(const uint32_t waits[12], uint32_t top)
+{
+    if (top == 1u) {
+        return 1;
+    }
+    return lists_none_awaited(waits);
+}
+
+// The large bins, from the first block f0 on, which level 1 of the index awaits; `waits` is what the others do. Sizes rise, and at the end no
+// mark is left and nothing is awaited.
+static inline int lists_large_bins(const unsigned char *pool, size_t pool_len, uint64_t *m, size_t m_len, uint32_t waits[12],
+        uint64_t k, uint32_t top, uint32_t f0)
 {
     uint64_t left = k;
     uint32_t y = 64u;
     uint32_t f = f0;
     while (f != 0u) {
-        if (!lists_first_ok(pool, pool_len, y, f)) {
+        uint32_t z = lists_size_at(pool, pool_len, f);
+        if (!lists_first_ok(pool, pool_len, waits, top, y, z, f)) {
             return 0;
         }
-        uint32_t z = lists_size_at(pool, pool_len, f);
         lists_Left r = lists_follow_large(pool, pool_len, m, m_len, left, z, f);
         if (!r.ok) {
             return 0;
@@ -939,17 +1124,29 @@ static inline int lists_large_bins(const unsigned char *pool, size_t pool_len, u
         y = z;
         f = heads_follow(f, words_field(pool, pool_len, f, 64u));
     }
-    return left == 0u;
+    if (left != 0u) {
+        return 0;
+    }
+    return lists_ended_ok(waits, top);
 }
 
-// All the lists, where k starts are marked: at the end no mark is left.
+// All the lists, where k starts are marked: at the end no mark is left. At first every level of the index awaits the false block.
 static inline int lists_all_listed(const unsigned char *pool, size_t pool_len, uint64_t *m, size_t m_len, uint64_t k)
 {
     lists_Left r = lists_small_bins(pool, pool_len, m, m_len, k);
     if (!r.ok) {
         return 0;
     }
-    return lists_large_bins(pool, pool_len, m, m_len, r.left, heads_follow(PAPER_FALSE_BLOCK, words_field(pool, pool_len, PAPER_FALSE_BLOCK, PAPER_CHAIN)));
+    uint32_t top = levels_top(pool, pool_len);
+    uint32_t waits[12];
+    for (size_t each = 0u; each < 12u; each++) {
+        waits[each] = PAPER_FALSE_BLOCK;
+    }
+    if (!lists_index_ok(pool, pool_len, waits, top, PAPER_FALSE_BLOCK)) {
+        return 0;
+    }
+    uint32_t f = heads_follow(PAPER_FALSE_BLOCK, words_field(pool, pool_len, PAPER_FALSE_BLOCK, PAPER_CHAIN));
+    return lists_large_bins(pool, pool_len, m, m_len, waits, r.left, top, f);
 }
 
 // ---- inspect: whether a pool is sound
@@ -1027,60 +1224,105 @@ static inline uint32_t bins_size_of(const unsigned char *pool, size_t pool_len, 
     return heads_apart(words_get32(pool, pool_len, (uint64_t)q)).size;
 }
 
-// From the block `from` along one level's links, which stand at `index` in each first block: the last bin that is
-// smaller than `least`, and the next. In a sound pool the sizes rise; where they do not, the walk ends.
-static inline bins_Bin bins_find_from(const unsigned char *pool, size_t pool_len, uint32_t index, uint32_t from, uint32_t least)
+// Along one level, from where the one above was left: up to the last bin that is smaller than `least`. What came next there comes next here
+// too, unless another bin stands before it. In a sound pool the sizes rise; where they do not, the walk ends.
+static inline bins_Bin bins_along(const unsigned char *pool, size_t pool_len, uint32_t level, bins_Bin bin, uint32_t least)
 {
-    uint32_t before = from;
+    uint32_t index = levels_word(level);
+    uint32_t stop = bin.first;
+    uint32_t before = bin.before;
     uint32_t below = 0u;
-    uint32_t first = bins_linked(pool, pool_len, from, index);
-    while (first != 0u) {
+    uint32_t first = bins_linked(pool, pool_len, before, index);
+    while (first != stop) {
         uint32_t size = bins_size_of(pool, pool_len, first);
         if (least <= size) {
-            return bins_Bin_of(before, first, size);
+            return bins_Bin_of(level, before, first, size);
         }
         if (size <= below) {
-            return bins_Bin_of(before, 0u, 0u);
+            return bins_Bin_of(level, before, 0u, 0u);
         }
         before = first;
         below = size;
         first = bins_linked(pool, pool_len, first, index);
     }
-    return bins_Bin_of(before, 0u, 0u);
+    return bins_Bin_of(level, before, stop, bin.size);
 }
 
-// The smallest bin of at least that size.
-static inline bins_Bin bins_find(const unsigned char *pool, size_t pool_len, uint32_t least)
+// The same level by level, down to the level `to`.
+static inline bins_Bin bins_down(const unsigned char *pool, size_t pool_len, bins_Bin bin, uint32_t to, uint32_t least)
 {
-    return bins_find_from(pool, pool_len, PAPER_CHAIN, PAPER_FALSE_BLOCK, least);
+    uint32_t level = bin.level;
+    bins_Bin at = bin;
+    while (to < level) {
+        level = level - 1u;
+        at = bins_along(pool, pool_len, level, at, least);
+    }
+    return at;
 }
 
-// The only block q of its bin, which stands after `before` on the chain: the chain passes over the bin.
-static inline void bins_pass_over(unsigned char *pool, size_t pool_len, uint32_t before, uint32_t q)
+// From the block `before`, which stands on a level, down to the level `to`.
+static inline bins_Bin bins_search(const unsigned char *pool, size_t pool_len, uint32_t level, uint32_t before, uint32_t to,
+        uint32_t least)
 {
-    uint32_t after = bins_linked(pool, pool_len, q, PAPER_CHAIN);
-    words_put_field(pool, pool_len, before, PAPER_CHAIN, heads_link_word(before, after));
+    bins_Bin at = bins_along(pool, pool_len, level, bins_Bin_of(level, before, 0u, 0u), least);
+    return bins_down(pool, pool_len, at, to, least);
 }
 
-// The first block q of its bin, which stands after `before` on the chain: the second becomes first.
-static inline void bins_head_bin(unsigned char *pool, size_t pool_len, uint32_t before, uint32_t second, uint32_t q)
+// The bin of a size, or where it would stand, on the highest level that it reaches.
+static inline bins_Bin bins_exact(const unsigned char *pool, size_t pool_len, uint32_t size)
 {
-    uint32_t after = bins_linked(pool, pool_len, q, PAPER_CHAIN);
-    words_put_field(pool, pool_len, second, PAPER_PREVIOUS, 0u);
-    words_put_field(pool, pool_len, second, PAPER_LEVEL, 1u);
-    words_put_field(pool, pool_len, second, PAPER_CHAIN, heads_link_word(second, after));
-    words_put_field(pool, pool_len, before, PAPER_CHAIN, heads_link_word(before, second));
+    uint32_t top = levels_top(pool, pool_len);
+    return bins_search(pool, pool_len, levels_start(top, size), PAPER_FALSE_BLOCK, levels_height(top, size), size);
 }
 
-// The first block q, with a second behind it or without.
-static inline void bins_leave_first(unsigned char *pool, size_t pool_len, uint32_t before, uint32_t q)
+// What comes past a bin on a level: past its first block `old`, or past `before` where it has none, which 0 says.
+static inline uint32_t bins_after(const unsigned char *pool, size_t pool_len, uint32_t index, uint32_t before, uint32_t old)
+{
+    if (old == 0u) {
+        return bins_linked(pool, pool_len, before, index);
+    }
+    return bins_linked(pool, pool_len, old, index);
+}
+
+// On one level `new` takes the place of `old`, and 0 stands for none; `before` stands before it.
+static inline void bins_relink(unsigned char *pool, size_t pool_len, uint32_t level, uint32_t before, uint32_t old, uint32_t new_)
+{
+    uint32_t index = levels_word(level);
+    uint32_t next = bins_after(pool, pool_len, index, before, old);
+    if (new_ == 0u) {
+        words_put_field(pool, pool_len, before, index, heads_link_word(before, next));
+        return;
+    }
+    words_put_field(pool, pool_len, new_, index, heads_link_word(new_, next));
+    words_put_field(pool, pool_len, before, index, heads_link_word(before, new_));
+}
+
+// The bin of a size is headed by `new` and no longer by `old`, on each level from that of `bin` down; `bin` tells what stands before it there.
+// On each level the walk goes on from where it stands.
+static inline void bins_rehead(unsigned char *pool, size_t pool_len, bins_Bin bin, uint32_t size, uint32_t old, uint32_t new_)
+{
+    uint32_t level = bin.level;
+    uint32_t before = bin.before;
+    while (1u < level) {
+        bins_relink(pool, pool_len, level, before, old, new_);
+        level = level - 1u;
+        bins_Bin at = bins_along(pool, pool_len, level, bins_Bin_of(level, before, old, size), size);
+        before = at.before;
+    }
+    bins_relink(pool, pool_len, 1u, before, old, new_);
+}
+
+// The first block q of a bin, found on its highest level: the second becomes first, with a level word of its own, or the index passes over.
+static inline void bins_leave_first(unsigned char *pool, size_t pool_len, bins_Bin bin, uint32_t size, uint32_t q)
 {
     uint32_t second = bins_linked(pool, pool_len, q, PAPER_NEXT);
     if (second == 0u) {
-        bins_pass_over(pool, pool_len, before, q);
+        bins_rehead(pool, pool_len, bin, size, q, 0u);
         return;
     }
-    bins_head_bin(pool, pool_len, before, second, q);
+    words_put_field(pool, pool_len, second, PAPER_PREVIOUS, 0u);
+    words_put_field(pool, pool_len, second, PAPER_LEVEL, bin.level);
+    bins_rehead(pool, pool_len, bin, size, q, second);
 }
 
 // The block q, wherever it stands.
@@ -1091,8 +1333,9 @@ static inline void bins_leave(unsigned char *pool, size_t pool_len, uint32_t q)
         bins_leave_later(pool, pool_len, previous, q);
         return;
     }
-    bins_Bin bin = bins_find(pool, pool_len, bins_size_of(pool, pool_len, q));
-    bins_leave_first(pool, pool_len, bin.before, q);
+    uint32_t size = bins_size_of(pool, pool_len, q);
+    bins_Bin bin = bins_exact(pool, pool_len, size);
+    bins_leave_first(pool, pool_len, bin, size, q);
 }
 
 // The head of a free block, at its start and again in its last 4 bytes.
@@ -1102,16 +1345,6 @@ static inline void bins_make_free(unsigned char *pool, size_t pool_len, uint32_t
     uint32_t foot = words_minus(words_plus(q, size), 4u);
     words_put32(pool, pool_len, (uint64_t)q, head);
     words_put32(pool, pool_len, (uint64_t)foot, head);
-}
-
-// The block q becomes the only one of its bin, between `before` and `after` on the chain.
-static inline void bins_enter_only(unsigned char *pool, size_t pool_len, uint32_t before, uint32_t after, uint32_t q)
-{
-    words_put_field(pool, pool_len, q, PAPER_PREVIOUS, 0u);
-    words_put_field(pool, pool_len, q, PAPER_NEXT, 0u);
-    words_put_field(pool, pool_len, q, PAPER_LEVEL, 1u);
-    words_put_field(pool, pool_len, q, PAPER_CHAIN, heads_link_word(q, after));
-    words_put_field(pool, pool_len, before, PAPER_CHAIN, heads_link_word(before, q));
 }
 
 // The block q becomes the second of the bin that `first` heads.
@@ -1130,19 +1363,24 @@ static inline void bins_enter_second(unsigned char *pool, size_t pool_len, uint3
     words_put_field(pool, pool_len, next, PAPER_PREVIOUS, on.home);
 }
 
+// The block q becomes the only one of its bin, whose place is known on its highest level.
+static inline void bins_enter_only(unsigned char *pool, size_t pool_len, bins_Bin bin, uint32_t size, uint32_t q)
+{
+    words_put_field(pool, pool_len, q, PAPER_PREVIOUS, 0u);
+    words_put_field(pool, pool_len, q, PAPER_NEXT, 0u);
+    words_put_field(pool, pool_len, q, PAPER_LEVEL, bin.level);
+    bins_rehead(pool, pool_len, bin, size, 0u, q);
+}
+
 // The free block q enters the bin of its size.
 static inline void bins_enter_bin(unsigned char *pool, size_t pool_len, uint32_t q, uint32_t size)
 {
-    bins_Bin bin = bins_find(pool, pool_len, size);
-    if (bin.first == 0u) {
-        bins_enter_only(pool, pool_len, bin.before, 0u, q);
-        return;
-    }
+    bins_Bin bin = bins_exact(pool, pool_len, size);
     if (bin.size == size) {
         bins_enter_second(pool, pool_len, bin.first, q);
         return;
     }
-    bins_enter_only(pool, pool_len, bin.before, bin.first, q);
+    bins_enter_only(pool, pool_len, bin, size, q);
 }
 
 // The bytes from q on are a free block of that size, which enters its bin.
@@ -1152,26 +1390,57 @@ static inline void bins_enter(unsigned char *pool, size_t pool_len, uint32_t q, 
     bins_enter_bin(pool, pool_len, q, size);
 }
 
-// Two blocks, of which the second is to keep its bytes. They may stand next to each other in one list, or head neighbouring
-// bins, and then the first to leave stores into the second: its words are kept, and put back.
-static inline void bins_leave_both(unsigned char *pool, size_t pool_len, uint32_t below, uint32_t above)
+// The words from `offset` on in the block at q, as many as the list is long.
+static inline void bins_keep(const unsigned char *pool, size_t pool_len, uint32_t q, uint32_t offset, uint32_t *kept,
+        size_t kept_len)
 {
-    uint32_t previous = words_field(pool, pool_len, above, PAPER_PREVIOUS);
-    uint32_t next = words_field(pool, pool_len, above, PAPER_NEXT);
-    uint32_t level = words_field(pool, pool_len, above, PAPER_LEVEL);
-    uint32_t chain = words_field(pool, pool_len, above, PAPER_CHAIN);
-    bins_leave(pool, pool_len, below);
-    bins_leave(pool, pool_len, above);
-    words_put_field(pool, pool_len, above, PAPER_PREVIOUS, previous);
-    words_put_field(pool, pool_len, above, PAPER_NEXT, next);
-    words_put_field(pool, pool_len, above, PAPER_LEVEL, level);
-    words_put_field(pool, pool_len, above, PAPER_CHAIN, chain);
+    uint64_t i = 0u;
+    uint32_t at = offset;
+    while (i < kept_len) {
+        kept[i] = words_field(pool, pool_len, q, at);
+        i = i + 1u;
+        at = words_plus(at, 4u);
+    }
 }
 
-// No bin was found.
-static inline int bins_none(bins_Bin bin)
+static inline void bins_put_back(unsigned char *pool, size_t pool_len, uint32_t q, uint32_t offset, const uint32_t *kept,
+        size_t kept_len)
 {
-    return bin.first == 0u;
+    uint64_t i = 0u;
+    uint32_t at = offset;
+    while (i < kept_len) {
+        words_put_field(pool, pool_len, q, at, kept[i]);
+        i = i + 1u;
+        at = words_plus(at, 4u);
+    }
+}
+
+// Two blocks, of which the second is to keep its bytes. They may stand next to each other in one list, or before one another in the index,
+// and then the first to leave stores into the second: its words are kept, and put back. An index word past its height is never stored to.
+static inline void bins_leave_both(unsigned char *pool, size_t pool_len, uint32_t below, uint32_t above)
+{
+    uint32_t height = levels_height(levels_top(pool, pool_len), bins_size_of(pool, pool_len, above));
+    uint32_t index = levels_word(height);
+    uint32_t links[3];
+    for (size_t each = 0u; each < 3u; each++) {
+        links[each] = 0u;
+    }
+    uint32_t index_words[13];
+    for (size_t each = 0u; each < 13u; each++) {
+        index_words[each] = 0u;
+    }
+    bins_keep(pool, pool_len, above, PAPER_PREVIOUS, links, 3u);
+    bins_keep(pool, pool_len, above, index, index_words, (size_t)(uint64_t)height);
+    bins_leave(pool, pool_len, below);
+    bins_leave(pool, pool_len, above);
+    bins_put_back(pool, pool_len, above, PAPER_PREVIOUS, links, 3u);
+    bins_put_back(pool, pool_len, above, index, index_words, (size_t)(uint64_t)height);
+}
+
+// There is no bin: on the lowest level nothing comes past the false block.
+static inline int bins_empty(const unsigned char *pool, size_t pool_len)
+{
+    return bins_linked(pool, pool_len, PAPER_FALSE_BLOCK, PAPER_CHAIN) == 0u;
 }
 
 // The size of the bin that was found, 0 where there is none.
@@ -1180,10 +1449,35 @@ static inline uint32_t bins_size(bins_Bin bin)
     return bin.size;
 }
 
-// The same, where `bin` was found for a smaller size: the way up to it is not walked again.
+// The smallest bin of at least a size, where `bin` was found for a smaller one: the way up to that is not walked again.
 static inline bins_Bin bins_find_on(const unsigned char *pool, size_t pool_len, bins_Bin bin, uint32_t least)
 {
-    return bins_find_from(pool, pool_len, PAPER_CHAIN, bin.before, least);
+    uint32_t level = bin.level;
+    if (level == 1u) {
+        if (bin.first == 0u) {
+            return bin;
+        }
+    }
+    return bins_search(pool, pool_len, level, bin.before, 1u, least);
+}
+
+// No bin was found.
+static inline int bins_none(bins_Bin bin)
+{
+    return bin.first == 0u;
+}
+
+// The only block of a bin: the index passes over it. A bin that was found below its highest level is looked for once more.
+static inline void bins_pass_over(unsigned char *pool, size_t pool_len, bins_Bin bin)
+{
+    uint32_t first = bin.first;
+    uint32_t size = bin.size;
+    if (bin.level == levels_height(levels_top(pool, pool_len), size)) {
+        bins_rehead(pool, pool_len, bin, size, first, 0u);
+        return;
+    }
+    bins_Bin again = bins_exact(pool, pool_len, size);
+    bins_rehead(pool, pool_len, again, size, first, 0u);
 }
 
 // The block of a bin that is used, the second where there is one, else the first.
@@ -1192,7 +1486,7 @@ static inline uint32_t bins_take_out(unsigned char *pool, size_t pool_len, bins_
     uint32_t first = bin.first;
     uint32_t second = bins_linked(pool, pool_len, first, PAPER_NEXT);
     if (second == 0u) {
-        bins_pass_over(pool, pool_len, bin.before, first);
+        bins_pass_over(pool, pool_len, bin);
         return first;
     }
     bins_leave_later(pool, pool_len, first, second);
@@ -1247,13 +1541,13 @@ static inline choosing_Choice choosing_choose_larger(const unsigned char *pool, 
     return choosing_Choice_LargerBin(larger, b);
 }
 
-// The bin of exactly b, or a larger one. Where none is at least b, the remainder.
+// The bin of exactly b, or a larger one. Where there is no bin at all, the remainder.
 static inline choosing_Choice choosing_choose_large(const unsigned char *pool, size_t pool_len, uint32_t b)
 {
-    bins_Bin exact = bins_find(pool, pool_len, b);
-    if (bins_none(exact)) {
+    if (bins_empty(pool, pool_len)) {
         return choosing_low_end(pool, pool_len, b);
     }
+    bins_Bin exact = bins_exact(pool, pool_len, b);
     if (bins_size(exact) == b) {
         return choosing_Choice_ExactBin(exact, b);
     }
@@ -1724,29 +2018,6 @@ static inline paper_Answer serving_class_count(const unsigned char *pool, size_t
     return paper_Answer_Done(walk_count_classes(pool, pool_len, counts, counts_len));
 }
 
-// The header and the false block are zeros.
-static inline void serving_clear(unsigned char *pool, size_t pool_len)
-{
-    uint64_t k = 0u;
-    while (k < 42u) {
-        words_put32(pool, pool_len, k << 2, 0u);
-        k = k + 1u;
-    }
-}
-
-// Lays the buffer out as a fresh pool of n bytes, its own length, which is allowed: after the zeros, the words that are not 0.
-static inline void serving_lay_out(unsigned char *pool, size_t pool_len, uint32_t n)
-{
-    uint32_t rest = words_minus(n, PAPER_BLOCKS);
-    serving_clear(pool, pool_len);
-    words_put64(pool, pool_len, PAPER_FREE_WORD, (uint64_t)words_minus(rest, 4u));
-    words_put64(pool, pool_len, PAPER_FALSE_WORD, (uint64_t)PAPER_FALSE_BLOCK);
-    words_put64(pool, pool_len, PAPER_START, (uint64_t)PAPER_BLOCKS);
-    words_put64(pool, pool_len, PAPER_END, (uint64_t)n);
-    words_put_field(pool, pool_len, PAPER_FALSE_BLOCK, PAPER_LEVEL, 1u);
-    words_put32(pool, pool_len, (uint64_t)PAPER_BLOCKS, heads_free_head(rest));
-}
-
 // ---- pool: the public calls
 
 // Takes the block of the payload at `offset` back; answers the payload's bytes.
@@ -1799,14 +2070,18 @@ static inline paper_Answer pool_lib_inspect(const unsigned char *pool, size_t po
     return paper_Answer_Done((uint32_t)pool_len);
 }
 
-// Lays the buffer out as a fresh pool; answers its length.
-static inline paper_Answer pool_lib_lay_out(unsigned char *pool, size_t pool_len)
+// Lays the buffer out as a fresh pool, in layout 1 or 2; answers its length.
+static inline paper_Answer pool_lib_lay_out(unsigned char *pool, size_t pool_len, uint32_t layout)
 {
     uint64_t n = pool_len;
     if (!inspect_allowed(n)) {
         return paper_Answer_Refused(PAPER_NOT_ALLOWED);
     }
-    serving_lay_out(pool, pool_len, (uint32_t)n);
+    uint32_t top = laying_top_of(layout);
+    if (top == 0u) {
+        return paper_Answer_Refused(PAPER_NO_LAYOUT);
+    }
+    laying_lay_out(pool, pool_len, (uint32_t)n, top);
     return paper_Answer_Done((uint32_t)n);
 }
 
@@ -1858,10 +2133,10 @@ uint64_t pool_inspect(const unsigned char *pool, size_t pool_len)
     return board_of(pool_lib_inspect(pool, pool_len));
 }
 
-// Lays the buffer out as a fresh pool; answers its length.
-uint64_t pool_lay_out(unsigned char *pool, size_t pool_len)
+// Lays the buffer out as a fresh pool, in layout 1 or 2; answers its length.
+uint64_t pool_lay_out(unsigned char *pool, size_t pool_len, uint32_t layout)
 {
-    return board_of(pool_lib_lay_out(pool, pool_len));
+    return board_of(pool_lib_lay_out(pool, pool_len, layout));
 }
 
 // Grants a block for a payload of `size` bytes; answers where the payload starts.
@@ -1937,6 +2212,12 @@ typedef struct {
     } as;
 } bank_Known;
 
+// One member of a union is set, and maybe not the widest: gcc warns of that as of a value that was not set.
+#if defined(__GNUC__) && !defined(__clang__)
+#pragma GCC diagnostic push
+#pragma GCC diagnostic ignored "-Wmaybe-uninitialized"
+#endif
+
 static inline bank_Told bank_Told_of(uint8_t why, uint32_t long_)
 {
     bank_Told made;
@@ -1989,6 +2270,10 @@ static inline bank_Known bank_Known_Unknown(void)
     made.tag = BANK_KNOWN_UNKNOWN;
     return made;
 }
+
+#if defined(__GNUC__) && !defined(__clang__)
+#pragma GCC diagnostic pop
+#endif
 
 // ---- asking: about a list of offsets at one walk
 

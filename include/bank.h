@@ -5,7 +5,7 @@
        static uint32_t bank[BANK_PISTONS];               zeros: every piston is empty
        unsigned char tabs[16] = {0};
 
-       uint64_t r = pool_lay_out(pool, sizeof pool);
+       uint64_t r = pool_lay_out(pool, sizeof pool, POOL_LAYOUT_1);
        r = bank_set(pool, sizeof pool, bank, 3, BANK_SIXTEEN, tabs, sizeof tabs);
        if (pool_refusal(r) == POOL_NO_ROOM) puts("what piston 3 had before, it still has");
        r = bank_recall(pool, sizeof pool, bank, 3);

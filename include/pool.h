@@ -4,7 +4,7 @@
    library it calls memset alone.
 
        static unsigned char pool[1024];
-       uint64_t r = pool_lay_out(pool, sizeof pool);
+       uint64_t r = pool_lay_out(pool, sizeof pool, POOL_LAYOUT_1);
        r = pool_take(pool, sizeof pool, 100);
        if (pool_refusal(r) == POOL_NO_ROOM) return;
        unsigned char *record = pool + pool_value(r);
@@ -13,14 +13,18 @@
        r = pool_give_back(pool, sizeof pool, (uint32_t)(record - pool));
        if (pool_refusal(r) == POOL_NOT_HELD) puts("it was given back already");
 
-   The bytes of a pool of n bytes; words are little-endian, of 8 bytes in the header and of 4 elsewhere:
+   A pool has one of two layouts, which the laying out names. Every call serves both and gives the same answers. Layout 2 has an index over the
+   free large blocks: it finds one faster where many different sizes are free, and its bytes are not for firmware that knows layout 1 alone.
+
+   The bytes of a pool of n bytes; words are little-endian, of 8 bytes in the header and of 4 elsewhere (docs/FORMAT.md has every word):
 
        0      free word: all free sizes, less 4
        8      96
        16     R, where the remainder starts
        24     E, where it ends
        32     first block of the small bin 8, or 0; then those of 16, 24, .. 64
-       96     the false block: 0, but for its level word (+12) and its chain word (+64)
+       96     the false block: 0, but for its level word (+12; 1 in layout 1, 13 in layout 2) and where the lists of free large
+              blocks start (+64; in layout 2 from +16 to +64)
        168    large blocks (72 bytes and more), end to end, held or free
        R      the remainder, free
        E      small blocks (8 to 64 bytes), end to end, held or free
@@ -57,7 +61,7 @@
 #define POOL_H
 
 /* What changed with each version: docs/CHANGES.md. */
-#define POOL_VERSION "0.3.1"
+#define POOL_VERSION "0.4.0"
 
 #include <stddef.h>
 #include <stdint.h>
@@ -74,7 +78,8 @@ enum {
     POOL_SIZE_ZERO = 3,   /* the size is 0 */
     POOL_NO_ROOM = 4,     /* no room by the grant rule */
     POOL_NOT_HELD = 5,    /* the offset is not the start of a held payload */
-    POOL_LIST_LENGTH = 6  /* the list has not 7 figures, or not 53 counters */
+    POOL_LIST_LENGTH = 6, /* the list has not 7 figures, or not 53 counters */
+    POOL_NO_LAYOUT = 8    /* the layout's number is neither 1 nor 2 */
 };
 
 /* Every call returns one number: the refusal in its upper 32 bits, the value in its lower 32 bits. Done, the refusal is 0; refused, the
@@ -82,8 +87,11 @@ enum {
 static inline uint32_t pool_refusal(uint64_t result) { return (uint32_t)(result >> 32); }
 static inline uint32_t pool_value(uint64_t result) { return (uint32_t)(result & 0xFFFFFFFFu); }
 
-/* Lays the buffer out as a fresh pool, whatever stands there. Value: n. Refused: 1. */
-uint64_t pool_lay_out(unsigned char *pool, size_t n);
+/* The layouts' numbers. */
+enum { POOL_LAYOUT_1 = 1, POOL_LAYOUT_2 = 2 };
+
+/* Lays the buffer out as a fresh pool of that layout, whatever stands there. Value: n. Refused: 1, 8. */
+uint64_t pool_lay_out(unsigned char *pool, size_t n, uint32_t layout);
 
 /* Whether the pool is sound. Value: n. Refused: 1, 2. */
 uint64_t pool_inspect(const unsigned char *pool, size_t n);

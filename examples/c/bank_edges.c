@@ -19,6 +19,7 @@ static uint32_t numbers[BEFORE + BANK_PISTONS + BEFORE], kept_numbers[sizeof num
 static unsigned char bodies[1 + LONGEST], kept_body[sizeof bodies];
 static unsigned char *pool = bytes + AROUND, *body = bodies; /* one round at an odd address */
 static uint32_t *const bank = numbers + BEFORE;
+static uint32_t layout; /* of the pools that are laid out */
 static unsigned passed, failed;
 
 static void expect(int holds, const char *what) {
@@ -101,7 +102,7 @@ static void empty(size_t n, uint32_t piston) { with(RECALL, n, piston, 0, 0, 0, 
 static void fresh(size_t n) {
     memset(pool, 0x5A, n);
     memset(bank, 0, BANK_PISTONS * sizeof *bank);
-    pool_lay_out(pool, n);
+    pool_lay_out(pool, n, layout);
 }
 
 /* 1 is asked before all others: piston, bank and record are wrong too. */
@@ -346,11 +347,12 @@ static void long_run(void) {
 
 int main(void) {
     int round;
-    for (round = 0; round < 2; round++) {
+    for (round = 0; round < 4; round++) {
         memset(bytes, 0x5A, sizeof bytes);
         memset(numbers, 0x5A, sizeof numbers);
-        pool = bytes + AROUND - round;
-        body = bodies + round;
+        pool = bytes + AROUND - round % 2;
+        body = bodies + round % 2;
+        layout = round < 2 ? POOL_LAYOUT_1 : POOL_LAYOUT_2;
         write_body(0);
         lengths();
         unsound();

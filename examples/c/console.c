@@ -70,7 +70,7 @@ int main(void) {
     static const unsigned char flutes[8] = {0x81, 0x02}, strings[16] = {0x18, 0x00, 0x40}, reeds[32] = {0x0f, 0xf0}, tutti[32] = {0xff, 0xff, 0xff};
 
     printf("lay out %u bytes: ", (unsigned)sizeof pool);
-    say(pool_lay_out(pool, sizeof pool));
+    say(pool_lay_out(pool, sizeof pool, POOL_LAYOUT_1));
 
     puts("-- three settings, one of each kind");
     set(0, BANK_EIGHT, flutes, sizeof flutes);

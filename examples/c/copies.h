@@ -9,7 +9,7 @@
        complete(&memory, change);                       from here on the change holds
 
    After a reset believed(&memory) has pool and bank as they were before the change or as they were after it. It is NULL in memory that was
-   never laid out: call lay_out_first then, before the first begin. Where stores wait in a cache, `in_order` has to push them out too. */
+   never laid out: call lay_out_first then, with the layout's number, before the first begin. Where stores wait in a cache, `in_order` has to push them out too. */
 #ifndef COPIES_H
 #define COPIES_H
 
@@ -54,11 +54,11 @@ static inline void complete(struct copies *c, struct copy *changed) {
 }
 
 /* Once in a memory's life, where believed() is NULL and nothing is to be saved. */
-static inline void lay_out_first(struct copies *c) {
+static inline void lay_out_first(struct copies *c, uint32_t layout) {
     c->copy[0].completed = c->copy[1].completed = 0;
     in_order();
     memset(c->copy[0].bank, 0, sizeof c->copy[0].bank);
-    pool_lay_out(c->copy[0].pool, sizeof c->copy[0].pool);
+    pool_lay_out(c->copy[0].pool, sizeof c->copy[0].pool, layout);
     in_order();
     c->copy[0].completed = 1;
 }

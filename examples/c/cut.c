@@ -31,7 +31,8 @@ static void after_a_reset(void) {
 
 static struct copy lone, lone_seen;
 
-static void one_step(int number) {
+/* Some emulators enter a handler with a stack that is not aligned as a call's is, and a library may rely on that. */
+__attribute__((force_align_arg_pointer)) static void one_step(int number) {
     (void)number;
     if (memcmp(&seen, &memory, sizeof seen)) {
         memcpy(&seen, &memory, sizeof seen);
@@ -75,10 +76,11 @@ static void make(struct copy *copy, int i) {
     }
 }
 
-int main(void) {
-    lay_out_first(&memory);
-    pool_lay_out(lone.pool, sizeof lone.pool);
-    sigaction(SIGTRAP, &(struct sigaction){.sa_handler = one_step}, NULL);
+static void run(uint32_t layout) {
+    memset(&memory, 0, sizeof memory);
+    memset(&lone, 0, sizeof lone);
+    lay_out_first(&memory, layout);
+    pool_lay_out(lone.pool, sizeof lone.pool, layout);
     for (int i = 0; i < CHANGES; i++) {
         struct copy *change;
         memcpy(&before, believed(&memory), sizeof before);
@@ -98,11 +100,17 @@ int main(void) {
         make(&lone, i);
         TRAP_OFF;
     }
-    printf("two copies, %d changes cut off after each of %u stores: %u times the old records, %u times the new ones, %u times neither\n",
-        (int)CHANGES, cuts, old_ones, new_ones, wrong);
+}
+
+int main(void) {
+    sigaction(SIGTRAP, &(struct sigaction){.sa_handler = one_step}, NULL);
+    run(POOL_LAYOUT_1);
+    run(POOL_LAYOUT_2);
+    printf("two copies on each layout, %d changes cut off after each of %u stores: %u times the old records, %u times the new ones, %u times neither\n",
+        2 * (int)CHANGES, cuts, old_ones, new_ones, wrong);
     printf("one pool and bank alone, cut off after each of %u stores: %u times every later call refuses it\n", lone_cuts, lone_refused);
     /* every change has been seen before and after its last store, and the lone copy is there to show that there is something to lose */
-    int good = !wrong && old_ones && new_ones >= CHANGES && lone_refused;
+    int good = !wrong && old_ones && new_ones >= 2 * CHANGES && lone_refused;
     printf("%d passed, %d failed\n", good, !good);
     return !good;
 }

@@ -15,6 +15,7 @@ static const char *in_words(uint32_t refusal) {
     case POOL_NO_ROOM: return "there is no room";
     case POOL_NOT_HELD: return "no held payload starts there";
     case POOL_LIST_LENGTH: return "the list has the wrong length";
+    case POOL_NO_LAYOUT: return "no layout has this number";
     default: return "no answer of this pool";
     }
 }
@@ -38,7 +39,8 @@ static uint32_t keep(const char *what, const char *text) {
 int main(void) {
     uint32_t great, swell, figures[POOL_FIGURES];
 
-    say("lay out", pool_lay_out(pool, sizeof pool));
+    say("lay out with layout 3", pool_lay_out(pool, sizeof pool, 3));
+    say("lay out", pool_lay_out(pool, sizeof pool, POOL_LAYOUT_1));
     great = keep("take for the great", "Principal 8, Octave 4, Mixture IV, and all the reeds of the great organ, as the bishop likes it");
     swell = keep("take for the swell", "Gamba 8");
     say("ask about the great", pool_ask(pool, sizeof pool, great));

@@ -2,7 +2,8 @@
 banks exactly where probe refuses a recall. And looks that no link runs through a row of blocks, where the words are, and that with
 pistons no words stand on others.
 
-The images are those of the example tapes, each damaged many times at a place that a fixed seed chooses; all go through one probe run.
+The images are those of the example tapes, in their layout and in the other one, each damaged many times at a place that a fixed seed
+chooses; all go through one probe run.
 Sound ones are also counted: the seven figures are those of the blocks that are drawn. The banks are given to sound pools, some of whose
 payloads begin as records do, and to a few damaged ones. The last line is `N passed, M failed`.
 """
@@ -11,6 +12,7 @@ import os
 import random
 import re
 import sys
+import tempfile
 
 HERE = os.path.dirname(os.path.abspath(__file__))
 sys.path.insert(0, os.path.join(HERE, "..", "..", "tools", "drawing"))
@@ -18,20 +20,22 @@ sys.path.insert(0, os.path.join(HERE, "..", "..", "tools", "drawing"))
 import main  # noqa: E402
 from bank import PISTONS, REFUSED, Bank  # noqa: E402
 from pistons import RADIUS, BankPicture  # noqa: E402
-from pool import Pool  # noqa: E402
+from pool import CHAIN, LEVEL, Pool  # noqa: E402
 from svg import HEIGHT, Picture, width_of  # noqa: E402
 
-TAPES = ["maps/bins", "tapes/worked", "tapes/scattering", "tapes/joins", "tapes/small"]
+TAPES = ["maps/bins", "tapes/worked", "tapes/scattering", "tapes/joins", "tapes/small", "maps/levels"]
 TURNS = 80
 BANKS = 150
-WORDS = [0, 1, 2, 3, 72, 96, 168, 2**31, 2**32 - 1]
+WORDS = [0, 1, 2, 3, 13, 72, 96, 168, 2**31, 2**32 - 1]
 
 
 def damaged(image, chance):
     """One bit, one byte or one word is another; words are often offsets of the pool, so that links lead somewhere."""
     data = bytearray(image)
     at = chance.randrange(len(data))
-    way = chance.randrange(3)
+    way = chance.randrange(4)
+    if way == 3:
+        return index_damaged(data, chance)
     if way == 0:
         data[at] ^= 1 << chance.randrange(8)
     elif way == 1:
@@ -40,6 +44,27 @@ def damaged(image, chance):
         value = chance.choice(WORDS + [chance.randrange(0, len(data) + 8, 8), chance.randrange(2**32)])
         data[at - at % 4:at - at % 4 + 4] = value.to_bytes(4, "little")
     return bytes(data)
+
+
+def index_damaged(data, chance):
+    """A level word or an index word, also one above the height, of the false block or of a bin's first block is another: one more or less, 0,
+    or a distance to some block that the index goes through."""
+    starts = [start for start, _ in Pool(bytes(data)).towers()]
+    start = chance.choice(starts)
+    at = start + chance.randrange(LEVEL, CHAIN + 4, 4)
+    old = int.from_bytes(data[at:at + 4], "little")
+    value = chance.choice([0, 1, 13, old + 1, old - 1, old + 8, old - 8, chance.choice(starts) - start])
+    data[at:at + 4] = (value % 2**32).to_bytes(4, "little")
+    return bytes(data)
+
+
+def on_the_other_layout(name):
+    """The pool that a tape leaves where it lays out with the other layout."""
+    swapped = {"L": "M", "M": "L"}
+    with open(name) as file, tempfile.NamedTemporaryFile("w", suffix=".tape") as other:
+        other.write("".join(swapped.get(line[:1], line[:1]) + line[1:] for line in file))
+        other.flush()
+        return main.run_tape(other.name)
 
 
 def counts(pool):
@@ -94,7 +119,8 @@ def agrees(image, inspected, figures):
 
 def run():
     chance = random.Random(1)
-    images = [main.run_tape(os.path.join(HERE, "..", name + ".tape")) for name in TAPES]
+    tapes = [os.path.join(HERE, "..", name + ".tape") for name in TAPES]
+    images = [main.run_tape(tape) for tape in tapes] + [on_the_other_layout(tape) for tape in tapes]
     return all([run_pools(images, chance), run_banks(images, chance)])
 
 

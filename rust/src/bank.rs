@@ -55,10 +55,10 @@ impl Record {
 /// A bank in 32 lent numbers: 0 for an empty piston, else the offset of its record's payload.
 ///
 /// ```
-/// use icewimple_pool::{Bank, Pool, Record, Refusal};
+/// use icewimple_pool::{Bank, Layout, Pool, Record, Refusal};
 ///
 /// let (mut buffer, mut numbers) = ([0; 1024], [0; 32]);
-/// let mut pool = Pool::lay_out(&mut buffer)?;
+/// let mut pool = Pool::lay_out(&mut buffer, Layout::One)?;
 /// let mut bank = Bank::empty(&mut numbers);
 /// bank.set(&mut pool, 3, &Record::Sixteen([0x81; 16]))?;
 /// if let Some(record) = bank.recall(&pool, 3)? {
@@ -83,9 +83,9 @@ impl Record {
 /// piston anew, or clear it.
 ///
 /// ```
-/// # use icewimple_pool::{Bank, Pool, Record, Refusal};
+/// # use icewimple_pool::{Bank, Layout, Pool, Record, Refusal};
 /// # let (mut buffer, mut numbers) = ([0; 1024], [0; 32]);
-/// # let mut pool = Pool::lay_out(&mut buffer)?;
+/// # let mut pool = Pool::lay_out(&mut buffer, Layout::One)?;
 /// # let mut bank = Bank::empty(&mut numbers);
 /// # bank.set(&mut pool, 3, &Record::Eight([1; 8]))?;
 /// # bank.set(&mut pool, 4, &Record::Eight([2; 8]))?;

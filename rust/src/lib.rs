@@ -1,10 +1,10 @@
 //! A memory pool for records that must not be lost, in a buffer that you lend: a safe wrapper over the proved calls of the crate `board`.
 //!
 //! ```
-//! use icewimple_pool::{Pool, Refusal};
+//! use icewimple_pool::{Layout, Pool, Refusal};
 //!
 //! let mut buffer = [0; 1024];
-//! let mut pool = Pool::lay_out(&mut buffer)?;
+//! let mut pool = Pool::lay_out(&mut buffer, Layout::One)?;
 //! let offset = pool.take(100)?;
 //! pool.lend_mut(offset)?.fill(b'x');
 //! pool.give_back(offset)?;
@@ -12,6 +12,7 @@
 //! # Ok::<(), Refusal>(())
 //! ```
 //!
+//! A pool has one of two layouts, and every call serves both with the same answers: [`Layout`] says which one to lay out.
 //! Above the pool stands [`Bank`], a bank of 32 pistons, each empty or naming one [`Record`] of the pool.
 //!
 //! Every call reads the pool's bytes first, and a refusal changes none of them. What each answers is proved of the library
@@ -61,21 +62,50 @@ pub struct Figures {
     pub largest: u32,
 }
 
+/// How a pool's bytes are laid out (`docs/FORMAT.md`). Every answer is the same on both.
+#[derive(Clone, Copy, Debug, PartialEq, Eq)]
+pub enum Layout {
+    /// Layout 1, which all firmware knows.
+    One,
+    /// Layout 2, with an index over the free large blocks: faster where many different sizes are free.
+    Two,
+}
+
+impl Layout {
+    /// The layout of a number, as from a setting or a wire.
+    /// Refused: [`NoLayout`](Refusal::NoLayout).
+    pub fn new(number: u32) -> Result<Layout, Refusal> {
+        match number {
+            1 => Ok(Layout::One),
+            2 => Ok(Layout::Two),
+            _ => Err(Refusal::NoLayout),
+        }
+    }
+
+    /// Its number.
+    pub fn number(self) -> u32 {
+        match self {
+            Layout::One => 1,
+            Layout::Two => 2,
+        }
+    }
+}
+
 /// A pool in a lent buffer.
 pub struct Pool<'a> {
     bytes: &'a mut [u8],
 }
 
 impl<'a> Pool<'a> {
-    /// Lays the buffer out as a fresh pool, whatever stands there.
+    /// Lays the buffer out as a fresh pool of that layout, whatever stands there.
     /// Refused: [`NotAllowed`](Refusal::NotAllowed).
-    pub fn lay_out(bytes: &'a mut [u8]) -> Result<Pool<'a>, Refusal> {
-        let result = raw::lay_out(bytes);
+    pub fn lay_out(bytes: &'a mut [u8], layout: Layout) -> Result<Pool<'a>, Refusal> {
+        let result = raw::lay_out(bytes, layout.number());
         same_length(answer(result, &[Refusal::NotAllowed])?, bytes.len(), result)?;
         Ok(Pool { bytes })
     }
 
-    /// The pool that the buffer has, if it is sound.
+    /// The pool that the buffer has, of either layout, if it is sound.
     /// Refused: [`NotAllowed`](Refusal::NotAllowed), [`NotSound`](Refusal::NotSound).
     pub fn open(bytes: &'a mut [u8]) -> Result<Pool<'a>, Refusal> {
         inspect(bytes)?;

@@ -2,7 +2,7 @@
 
 mod c {
     extern "C" {
-        pub fn pool_lay_out(pool: *mut u8, n: usize) -> u64;
+        pub fn pool_lay_out(pool: *mut u8, n: usize, layout: u32) -> u64;
         pub fn pool_inspect(pool: *const u8, n: usize) -> u64;
         pub fn pool_take(pool: *mut u8, n: usize, size: u32) -> u64;
         pub fn pool_give_back(pool: *mut u8, n: usize, offset: u32) -> u64;
@@ -28,9 +28,9 @@ mod c {
 // what is only read, nothing is asked but that it stays. An empty slice may dangle. The calls keep no pointer, and answer for every n,
 // number and bytes.
 
-pub fn lay_out(pool: &mut [u8]) -> u64 {
+pub fn lay_out(pool: &mut [u8], layout: u32) -> u64 {
     // SAFETY: pointer and length are those of one exclusive slice.
-    unsafe { c::pool_lay_out(pool.as_mut_ptr(), pool.len()) }
+    unsafe { c::pool_lay_out(pool.as_mut_ptr(), pool.len(), layout) }
 }
 
 pub fn inspect(pool: &[u8]) -> u64 {

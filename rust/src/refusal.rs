@@ -15,6 +15,8 @@ pub enum Refusal {
     NoRoom,
     /// 5: the offset is not the start of a held payload.
     NotHeld,
+    /// 8: the number is no layout's. Only [`Layout::new`](crate::Layout::new) meets it.
+    NoLayout,
     /// 10: the piston is above 31.
     NoPiston,
     /// 11: the kind is unknown, or the body has another length than its kind says. Only [`Record::new`](crate::Record::new) meets it.
@@ -35,6 +37,7 @@ impl Refusal {
             Refusal::SizeZero => Some(3),
             Refusal::NoRoom => Some(4),
             Refusal::NotHeld => Some(5),
+            Refusal::NoLayout => Some(8),
             Refusal::NoPiston => Some(10),
             Refusal::NoRecord => Some(11),
             Refusal::NotNamed => Some(12),
@@ -53,6 +56,7 @@ impl fmt::Display for Refusal {
             Refusal::SizeZero => write!(f, "the size is 0"),
             Refusal::NoRoom => write!(f, "no room by the grant rule"),
             Refusal::NotHeld => write!(f, "the offset is not the start of a held payload"),
+            Refusal::NoLayout => write!(f, "the layout's number is neither 1 nor 2"),
             Refusal::NoPiston => write!(f, "the piston is above 31"),
             Refusal::NoRecord => write!(f, "the kind is unknown, or its body has another length"),
             Refusal::NotNamed => {
@@ -126,14 +130,16 @@ mod tests {
             Refusal::SizeZero,
             Refusal::NoRoom,
             Refusal::NotHeld,
+            Refusal::NoLayout,
             Refusal::NoPiston,
             Refusal::NoRecord,
             Refusal::NotNamed,
         ]
         .map(|r| r.number());
-        assert_eq!(numbers, [1, 2, 3, 4, 5, 10, 11, 12].map(Some));
+        assert_eq!(numbers, [1, 2, 3, 4, 5, 8, 10, 11, 12].map(Some));
         assert_eq!(Refusal::Unforeseen(7 << 32).number(), None);
         assert_eq!(Refusal::NotHeld.to_string(), "the offset is not the start of a held payload");
+        assert_eq!(Refusal::NoLayout.to_string(), "the layout's number is neither 1 nor 2");
         assert_eq!(
             Refusal::Unforeseen(16).to_string(),
             "the library answered 0x10, which its contract rules out"

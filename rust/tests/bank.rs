@@ -1,5 +1,5 @@
 //! The piston bank over the proved library: settings, every refusal, and a long random run held against a plain list.
-use icewimple_pool::{Bank, Pool, Record, Refusal, PISTONS};
+use icewimple_pool::{Bank, Layout, Pool, Record, Refusal, PISTONS};
 
 /// A record of each kind in turn, told apart by its bytes.
 fn record(number: usize) -> Record {
@@ -23,7 +23,7 @@ fn refused(pool: &mut Pool, bank: &mut Bank, piston: u32, refusal: Refusal) {
 #[test]
 fn a_piston_shows_its_latest_setting() {
     let (mut buffer, mut numbers) = ([0; 1024], [7; PISTONS]);
-    let mut pool = Pool::lay_out(&mut buffer).unwrap();
+    let mut pool = Pool::lay_out(&mut buffer, Layout::One).unwrap();
     let mut bank = Bank::empty(&mut numbers);
     for piston in [0, 1, 2, 31] {
         assert_eq!(bank.recall(&pool, piston), Ok(None));
@@ -44,7 +44,7 @@ fn a_piston_shows_its_latest_setting() {
 fn a_record_is_its_kind_and_its_body_at_the_payload_s_start() {
     let (mut buffer, mut numbers) = ([0; 1024], [0; PISTONS]);
     buffer.fill(0x5A);
-    let mut pool = Pool::lay_out(&mut buffer).unwrap();
+    let mut pool = Pool::lay_out(&mut buffer, Layout::Two).unwrap();
     let mut bank = Bank::empty(&mut numbers);
     for (piston, record) in (0..3).map(|i| (i, record(i as usize))) {
         bank.set(&mut pool, piston, &record).unwrap();
@@ -58,7 +58,7 @@ fn a_record_is_its_kind_and_its_body_at_the_payload_s_start() {
 #[test]
 fn pool_and_numbers_are_kept_and_opened_again() {
     let (mut buffer, mut numbers) = ([0; 2048], [0; PISTONS]);
-    let mut pool = Pool::lay_out(&mut buffer).unwrap();
+    let mut pool = Pool::lay_out(&mut buffer, Layout::One).unwrap();
     let mut bank = Bank::empty(&mut numbers);
     for piston in 0..PISTONS {
         bank.set(&mut pool, piston as u32, &record(piston)).unwrap();
@@ -75,7 +75,7 @@ fn pool_and_numbers_are_kept_and_opened_again() {
 #[test]
 fn a_recalled_record_is_set_at_another_piston() {
     let (mut buffer, mut numbers) = ([0; 1024], [0; PISTONS]);
-    let mut pool = Pool::lay_out(&mut buffer).unwrap();
+    let mut pool = Pool::lay_out(&mut buffer, Layout::Two).unwrap();
     let mut bank = Bank::empty(&mut numbers);
     bank.set(&mut pool, 0, &record(5)).unwrap();
     let recalled = bank.recall(&pool, 0).unwrap().unwrap();
@@ -87,7 +87,7 @@ fn a_recalled_record_is_set_at_another_piston() {
 #[test]
 fn pistons_above_31() {
     let (mut buffer, mut numbers) = ([0; 1024], [0; PISTONS]);
-    let mut pool = Pool::lay_out(&mut buffer).unwrap();
+    let mut pool = Pool::lay_out(&mut buffer, Layout::One).unwrap();
     numbers[5] = 4; // 10 is asked before 12
     for piston in [32, 33, 64, 256, 1 << 31, u32::MAX] {
         refused(&mut pool, &mut Bank::open(&mut numbers), piston, Refusal::NoPiston);
@@ -98,7 +98,7 @@ fn pistons_above_31() {
 #[test]
 fn with_no_room_the_old_setting_stays() {
     let (mut buffer, mut numbers) = ([0; 1016], [0; PISTONS]); // just enough for these 32 records
-    let mut pool = Pool::lay_out(&mut buffer).unwrap();
+    let mut pool = Pool::lay_out(&mut buffer, Layout::Two).unwrap();
     let mut bank = Bank::empty(&mut numbers);
     for piston in 0..PISTONS {
         assert_eq!(bank.set(&mut pool, piston as u32, &record(piston)), Ok(()));
@@ -114,7 +114,7 @@ fn with_no_room_the_old_setting_stays() {
 #[test]
 fn numbers_that_are_not_held_or_named_twice() {
     let (mut buffer, mut numbers) = ([0; 1024], [0; PISTONS]);
-    let mut pool = Pool::lay_out(&mut buffer).unwrap();
+    let mut pool = Pool::lay_out(&mut buffer, Layout::One).unwrap();
     let mut bank = Bank::empty(&mut numbers);
     bank.set(&mut pool, 9, &record(9)).unwrap();
     bank.set(&mut pool, 10, &record(10)).unwrap();
@@ -137,7 +137,7 @@ fn numbers_that_are_not_held_or_named_twice() {
 #[test]
 fn a_record_that_does_not_read() {
     let (mut buffer, mut numbers) = ([0; 1024], [0; PISTONS]);
-    let mut pool = Pool::lay_out(&mut buffer).unwrap();
+    let mut pool = Pool::lay_out(&mut buffer, Layout::Two).unwrap();
     let mut bank = Bank::empty(&mut numbers);
     bank.set(&mut pool, 1, &record(1)).unwrap();
     for kind in [0, 2, 3, 4, 255] {
@@ -171,7 +171,7 @@ impl Numbers {
 fn a_long_run() {
     let mut random = Numbers(0x9E37_79B9_7F4A_7C15);
     let (mut buffer, mut numbers) = ([0; 1024], [0; PISTONS]);
-    let mut pool = Pool::lay_out(&mut buffer).unwrap();
+    let mut pool = Pool::lay_out(&mut buffer, Layout::One).unwrap();
     let mut bank = Bank::empty(&mut numbers);
     let mut latest: [Option<Record>; PISTONS] = [None; PISTONS];
     let mut other = None;

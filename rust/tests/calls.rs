@@ -1,5 +1,5 @@
 //! The wrapper over the proved library: the paper's worked tape, every refusal, and a long random run held against a plain list.
-use icewimple_pool::{Figures, Pool, Refusal, CLASSES};
+use icewimple_pool::{Figures, Layout, Pool, Refusal, CLASSES};
 
 /// The least class whose size is at least the payload.
 fn class_of(payload: u32) -> usize {
@@ -8,9 +8,11 @@ fn class_of(payload: u32) -> usize {
         .expect("a payload fits a class")
 }
 
-/// 1,024 bytes after the worked tape, up to its figures.
-fn worked(buffer: &mut [u8]) -> Pool<'_> {
-    let mut pool = Pool::lay_out(buffer).unwrap();
+const LAYOUTS: [Layout; 2] = [Layout::One, Layout::Two];
+
+/// 1,024 bytes after the worked tape, up to its figures; it answers alike on both layouts.
+fn worked(buffer: &mut [u8], layout: Layout) -> Pool<'_> {
+    let mut pool = Pool::lay_out(buffer, layout).unwrap();
     assert_eq!(pool.take(10), Ok(1012));
     assert_eq!(pool.take(100), Ok(172));
     assert_eq!(pool.take(61), Ok(276));
@@ -27,8 +29,14 @@ fn worked(buffer: &mut [u8]) -> Pool<'_> {
 
 #[test]
 fn the_worked_tape() {
+    for layout in LAYOUTS {
+        the_worked_tape_on(layout);
+    }
+}
+
+fn the_worked_tape_on(layout: Layout) {
     let mut buffer = [0; 1024];
-    let pool = worked(&mut buffer);
+    let pool = worked(&mut buffer, layout);
     let figures = Figures {
         held_blocks: 4,
         held_bytes: 368,
@@ -53,21 +61,27 @@ fn the_worked_tape() {
 fn lengths_on_both_sides_of_the_edge() {
     for n in [0, 8, 168, 175, 177, 65_535, 65_544] {
         let mut buffer = vec![7; n];
-        assert_eq!(Pool::lay_out(&mut buffer).unwrap_err(), Refusal::NotAllowed, "{n}");
+        for layout in LAYOUTS {
+            let refused = Pool::lay_out(&mut buffer, layout).unwrap_err();
+            assert_eq!(refused, Refusal::NotAllowed, "{n}");
+        }
         assert_eq!(Pool::open(&mut buffer).unwrap_err(), Refusal::NotAllowed, "{n}");
         assert_eq!(buffer, vec![7; n]);
     }
     for n in [176, 184, 65_536] {
-        let mut buffer = vec![7; n];
-        let pool = Pool::lay_out(&mut buffer).unwrap();
-        assert_eq!(pool.figures().unwrap().free_word as usize, n - 172);
-        assert_eq!(pool.bytes().len(), n);
+        for layout in LAYOUTS {
+            let mut buffer = vec![7; n];
+            let pool = Pool::lay_out(&mut buffer, layout).unwrap();
+            assert_eq!(pool.figures().unwrap().free_word as usize, n - 172);
+            assert_eq!(pool.bytes().len(), n);
+        }
     }
 }
 
 #[test]
 fn an_empty_slice_is_refused_wherever_it_points() {
-    assert_eq!(Pool::lay_out(&mut []).unwrap_err(), Refusal::NotAllowed);
+    assert_eq!(Pool::lay_out(&mut [], Layout::One).unwrap_err(), Refusal::NotAllowed);
+    assert_eq!(Pool::lay_out(&mut [], Layout::Two).unwrap_err(), Refusal::NotAllowed);
     assert_eq!(Pool::open(&mut []).unwrap_err(), Refusal::NotAllowed);
     let mut buffer = [7; 8];
     assert_eq!(Pool::open(&mut buffer[8..]).unwrap_err(), Refusal::NotAllowed);
@@ -77,16 +91,51 @@ fn an_empty_slice_is_refused_wherever_it_points() {
 fn a_pool_that_is_not_sound_is_not_opened() {
     let mut buffer = [0; 1024];
     assert_eq!(Pool::open(&mut buffer).unwrap_err(), Refusal::NotSound);
-    worked(&mut buffer);
+    worked(&mut buffer, Layout::One);
     assert!(Pool::open(&mut buffer).is_ok());
     buffer[0] ^= 1;
     assert_eq!(Pool::open(&mut buffer).unwrap_err(), Refusal::NotSound);
 }
 
 #[test]
+fn a_layout_is_1_or_2() {
+    for layout in LAYOUTS {
+        assert_eq!(Layout::new(layout.number()), Ok(layout));
+    }
+    assert_eq!(LAYOUTS.map(Layout::number), [1, 2]);
+    for number in [0, 3, 8, 13, 257, u32::MAX] {
+        assert_eq!(Layout::new(number), Err(Refusal::NoLayout), "{number}");
+    }
+}
+
+/// The false block's level word, at 108, tells the layouts apart; of a pool without free large blocks nothing else does.
+#[test]
+fn the_layouts_have_their_bytes() {
+    let pools = LAYOUTS.map(|layout| {
+        let mut buffer = [0xA5; 1024];
+        Pool::lay_out(&mut buffer, layout).unwrap();
+        buffer
+    });
+    let differ: Vec<usize> = (0..1024).filter(|at| pools[0][*at] != pools[1][*at]).collect();
+    assert_eq!(differ, [108]);
+    assert_eq!((pools[0][108], pools[1][108]), (1, 13));
+    // a block of 80 bytes reaches two levels: 72 bytes on from the false block, at +64 and at +60
+    let mut buffer = [0; 1024];
+    let mut pool = Pool::lay_out(&mut buffer, Layout::Two).unwrap();
+    assert_eq!((pool.take(76), pool.take(68), pool.give_back(172)), (Ok(172), Ok(252), Ok(76)));
+    assert_eq!((buffer[160], buffer[156], buffer[152], buffer[180]), (72, 72, 0, 2));
+    assert!(Pool::open(&mut buffer).is_ok());
+    for (at, value) in [(108, 1), (180, 1), (156, 0), (152, 72)] {
+        let mut other = buffer;
+        other[at] = value;
+        assert_eq!(Pool::open(&mut other).unwrap_err(), Refusal::NotSound, "{at}");
+    }
+}
+
+#[test]
 fn a_refusal_changes_no_byte() {
     let mut buffer = [0; 1024];
-    let mut pool = worked(&mut buffer);
+    let mut pool = worked(&mut buffer, Layout::Two);
     let before = pool.bytes().to_vec();
     assert_eq!(pool.take(0), Err(Refusal::SizeZero));
     for size in [405, 65_536, u32::MAX] {
@@ -104,7 +153,7 @@ fn a_refusal_changes_no_byte() {
 #[test]
 fn what_is_written_stays_while_it_is_held() {
     let mut buffer = vec![0; 4096];
-    let mut pool = Pool::lay_out(&mut buffer).unwrap();
+    let mut pool = Pool::lay_out(&mut buffer, Layout::One).unwrap();
     let (a, b) = (pool.take(300).unwrap(), pool.take(30).unwrap());
     pool.lend_mut(a).unwrap().fill(0xAA);
     pool.lend_mut(b).unwrap().fill(0xBB);
@@ -130,9 +179,15 @@ impl Numbers {
 /// the largest grant is granted, and one byte more is not.
 #[test]
 fn a_long_run() {
+    for layout in LAYOUTS {
+        a_long_run_on(layout);
+    }
+}
+
+fn a_long_run_on(layout: Layout) {
     let mut numbers = Numbers(0x9E37_79B9_7F4A_7C15);
     let mut buffer = vec![0; 8192];
-    let mut pool = Pool::lay_out(&mut buffer).unwrap();
+    let mut pool = Pool::lay_out(&mut buffer, layout).unwrap();
     let mut held: Vec<(u32, u8)> = Vec::new();
     let (mut granted, mut no_room) = (0, 0);
     for turn in 0..4000 {

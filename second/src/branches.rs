@@ -1,8 +1,11 @@
-//! Which branches of the rules a request takes, seen from the state before it and the answer.
-//! Random tapes are only worth their number if none of these stays at 0.
+//! Which branches of the rules a request takes, seen from the state before it and the answer, and
+//! counted for each layout by itself. Random tapes are only worth their number if none of these
+//! stays at 0.
 
 use crate::rules::{largest_grant, need, Refusal};
-use crate::state::{Bins, Block, State, GREATEST_POOL, GREATEST_SMALL, LEAST_LARGE, LOW_RUN};
+use crate::state::{
+    Bins, Block, Layout, State, GREATEST_POOL, GREATEST_SMALL, LEAST_LARGE, LOW_RUN,
+};
 use crate::tally::{expanded, Tally};
 use crate::tape::Request;
 
@@ -24,9 +27,12 @@ pub const NOT_HELD: [&str; 9] = [
     "inside a held block",
 ];
 
+/// How many levels a bin reaches, in the order in which names are listed.
+const HEIGHTS: [&str; 6] = ["1", "2", "3 or 4", "5 to 8", "9 to 12", "13"];
+
 /// Every branch in the order of the table; `@` stands for each of the four places, `~` for each
-/// place of an offset.
-const NAMES: [&str; 69] = [
+/// place of an offset, `#` for each height.
+const NAMES: [&str; 88] = [
     "lay out: the first pool",
     "lay out: over an old pool",
     "lay out: refused 1, no pool yet",
@@ -96,51 +102,98 @@ const NAMES: [&str; 69] = [
     "give back large: joined run enters a bin with blocks",
     "give back large: into the remainder, none free below",
     "give back large: into the remainder, a free block below",
+    "index: a bin of height # opens",
+    "index: a bin of height # is emptied",
+    "index: in a bin of height 1 the second becomes first",
+    "index: in a bin of height 2 the second becomes first",
+    "index: in a bin of height 3 or 4 the second becomes first",
+    "index: in a bin of height 5 to 8 the second becomes first",
+    "index: in a bin of height 9 to 12 the second becomes first",
+    "index: where one stood, the bins before it differ from level to level",
+    "index: where one stood, the bins behind it differ from level to level",
+    "index: where one opens, the bins before it differ from level to level",
+    "index: where one opens, the bins behind it differ from level to level",
+    "index: the highest level is left without a bin",
+    "index: the highest level gets its first bin",
+    "give back large: both head bins that are neighbours at several levels, below's smaller",
+    "give back large: both head bins that are neighbours at several levels, above's smaller",
+    "give back large: both head bins that are neighbours above level 1 alone, below's smaller",
+    "give back large: both head bins that are neighbours above level 1 alone, above's smaller",
+    "give back large: both head bins, below alone in it and above not, neighbours above level 1",
+    "give back large: both head bins, above alone in it and below not, neighbours above level 1",
 ];
 
 /// Branches that a call takes on a pool image, where there is no tape and always a pool.
 pub fn of_a_pool(name: &str) -> bool {
-    let calls = ["take", "give back", "figures"];
+    let calls = ["take", "give back", "figures", "index"];
     calls.iter().any(|call| name.starts_with(call)) && !name.contains("no pool yet")
 }
 
+/// Whether a branch can be taken in a layout. What is met before there is a pool, or where a record
+/// cannot be read, is counted for layout 1.
+pub fn of_layout(name: &str, layout: Layout) -> bool {
+    let levels = name.starts_with("index") || name.contains("level");
+    let no_layout = name.contains("no pool yet") && !name.starts_with("lay out");
+    match layout {
+        Layout::One => !levels,
+        Layout::Two => !no_layout && !name.starts_with("record"),
+    }
+}
+
+/// How often a branch was taken, in layout 1 and in layout 2.
+pub type Taken = [u64; 2];
+
 pub struct Counts {
-    tally: Tally,
+    tallies: [Tally; 2],
+    /// Of the pool, or of the laying out, that is counted.
+    layout: Layout,
 }
 
 impl Counts {
     pub fn new() -> Counts {
-        let names = NAMES.iter().map(|name| name.to_string()).collect();
-        let names = expanded(expanded(names, '@', &PLACES), '~', &NOT_HELD);
-        Counts { tally: Tally::new(names) }
+        let mut names = NAMES.iter().map(|name| name.to_string()).collect();
+        for (mark, words) in [('@', &PLACES[..]), ('~', &NOT_HELD), ('#', &HEIGHTS)] {
+            names = expanded(names, mark, words);
+        }
+        let tallies = [Tally::new(names.clone()), Tally::new(names)];
+        Counts { tallies, layout: Layout::One }
     }
 
     fn add(&mut self, name: &str) {
-        self.tally.add(name);
+        self.tallies[self.layout as usize - 1].add(name);
     }
 
     fn add_at(&mut self, name: &str, place: usize) {
         self.add(&name.replace('@', PLACES[place]));
     }
 
-    /// Name and count in the order of the list.
-    pub fn table(&self) -> Vec<(String, u64)> {
-        self.tally.table()
+    /// Name and counts in the order of the list.
+    pub fn table(&self) -> Vec<(String, Taken)> {
+        let both = self.tallies[0].table().into_iter().zip(self.tallies[1].table());
+        both.map(|((name, one), (_, two))| (name, [one, two])).collect()
     }
 
     pub fn unreadable(&mut self, short_body: bool) {
+        self.layout = Layout::One;
         let name = if short_body { "short body" } else { "other kind" };
         self.add(&format!("record refused 7: {}", name));
     }
 
     /// Counts one request; `outcome` is there for takes and give-backs on a pool.
     pub fn observe(&mut self, before: Option<&State>, request: Request, outcome: Option<&Outcome>) {
+        self.layout = match request {
+            Request::LayOut(layout, _) => layout,
+            _ => before.map_or(Layout::One, |state| state.layout),
+        };
+        if let (Some(before), Some(Ok((after, _))), Layout::Two) = (before, outcome, self.layout) {
+            self.index(before, after);
+        }
         match (before, request, outcome) {
             (Some(state), Request::Take(s), Some(outcome)) => self.take(state, s, outcome),
             (Some(state), Request::GiveBack(offset), Some(outcome)) => {
                 self.give_back(state, offset, outcome)
             }
-            (_, Request::LayOut(n), _) => self.lay_out(before.is_some(), n),
+            (_, Request::LayOut(_, n), _) => self.lay_out(before.is_some(), n),
             (None, Request::Take(_), _) => self.add("take: refused 1, no pool yet"),
             (None, Request::GiveBack(_), _) => self.add("give back: refused 1, no pool yet"),
             (None, Request::Figures, _) => self.add("figures: refused 1, no pool yet"),
@@ -303,6 +356,48 @@ impl Counts {
         self.run_goes(before, after, index, below, above);
     }
 
+    /// What became of the index: bins that opened, bins that were emptied, other first blocks.
+    fn index(&mut self, before: &State, after: &State) {
+        for (size, starts) in &before.large_bins {
+            match after.large_bins.get(size) {
+                None => {
+                    self.add(&format!("index: a bin of height {} is emptied", tall(*size)));
+                    self.levels_around(&before.large_bins, *size, "stood");
+                }
+                Some(others) if !others.contains(&starts[0]) => {
+                    let name = format!("index: in a bin of height {}", tall(*size));
+                    self.add(&format!("{} the second becomes first", name));
+                }
+                Some(_) => {}
+            }
+        }
+        for size in after.large_bins.keys().filter(|size| !before.large_bins.contains_key(size)) {
+            self.add(&format!("index: a bin of height {} opens", tall(*size)));
+            self.levels_around(&after.large_bins, *size, "opens");
+        }
+        let (was, is) = (highest(&before.large_bins), highest(&after.large_bins));
+        if was > is {
+            self.add("index: the highest level is left without a bin");
+        } else if was < is {
+            self.add("index: the highest level gets its first bin");
+        }
+    }
+
+    /// Whether the bins next to one at the levels that it reaches are not all the same.
+    fn levels_around(&mut self, bins: &Bins, size: usize, what: &str) {
+        let levels = 1..=Layout::Two.height(size);
+        let reach = |level: usize| move |other: &&usize| Layout::Two.height(**other) >= level;
+        let before = levels.clone().map(|j| bins.range(..size).map(|b| b.0).rev().find(reach(j)));
+        let behind = levels.map(|j| bins.range(size + 1..).map(|b| b.0).find(reach(j)));
+        let (before, behind): (Vec<_>, Vec<_>) = (before.collect(), behind.collect());
+        for (side, bins) in [("before", before), ("behind", behind)] {
+            if bins.iter().any(|bin| *bin != bins[0]) {
+                let name = format!("index: where one {}, the bins {} it differ", what, side);
+                self.add(&format!("{} from level to level", name));
+            }
+        }
+    }
+
     fn neighbours(&mut self, bins: &Bins, below: Option<Block>, above: Option<Block>) {
         self.add(match (below, above) {
             (None, None) => "give back large: no neighbour free",
@@ -350,6 +445,33 @@ impl Counts {
         } else if neighbours && heads {
             let name = "give back large: both head neighbouring bins";
             self.add(&format!("{}, {} smaller", name, which));
+        }
+        if heads && self.layout == Layout::Two {
+            self.both_in_the_index(bins, below.size, above.size);
+        }
+    }
+
+    /// Of two bins that both lose their first block, at which levels one follows the other.
+    fn both_in_the_index(&mut self, bins: &Bins, below: usize, above: usize) {
+        let (small, large) = (below.min(above), below.max(above));
+        let between = bins.range(small + 1..large).map(|(size, _)| Layout::Two.height(*size));
+        let hidden = between.max().unwrap_or(0);
+        let shared = Layout::Two.height(small).min(Layout::Two.height(large));
+        let which = if below < above { "below's" } else { "above's" };
+        let name = "give back large: both head bins";
+        if hidden == 0 && shared > 1 {
+            let levels = "that are neighbours at several levels";
+            self.add(&format!("{} {}, {} smaller", name, levels, which));
+        }
+        if hidden > 0 && shared > hidden {
+            let levels = "that are neighbours above level 1 alone";
+            self.add(&format!("{} {}, {} smaller", name, levels, which));
+        }
+        let alone = |size: usize| bins[&size].len() == 1;
+        if shared > hidden && shared > 1 && alone(below) != alone(above) {
+            let (one, other) = if alone(below) { ("below", "above") } else { ("above", "below") };
+            let levels = "neighbours above level 1";
+            self.add(&format!("{}, {} alone in it and {} not, {}", name, one, other, levels));
         }
     }
 
@@ -407,6 +529,23 @@ pub fn place_not_held(state: &State, offset: usize) -> &'static str {
 /// A bin that would hold `size` but may not be split for it.
 fn passed_over(bins: &Bins, size: usize) -> bool {
     bins.range(size + 1..size + LEAST_LARGE).next().is_some()
+}
+
+/// The height of a bin of layout 2, as it is listed.
+fn tall(size: usize) -> &'static str {
+    match Layout::Two.height(size) {
+        1 => HEIGHTS[0],
+        2 => HEIGHTS[1],
+        3 | 4 => HEIGHTS[2],
+        5..=8 => HEIGHTS[3],
+        9..=12 => HEIGHTS[4],
+        _ => HEIGHTS[5],
+    }
+}
+
+/// The highest level of layout 2 that has a bin, 0 where there is none.
+fn highest(bins: &Bins) -> usize {
+    bins.keys().map(|size| Layout::Two.height(*size)).max().unwrap_or(0)
 }
 
 fn place(index: usize, length: usize) -> usize {

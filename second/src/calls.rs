@@ -3,7 +3,7 @@
 
 use crate::layout;
 use crate::rules::{self, Refusal};
-use crate::state::{allowed, State};
+use crate::state::{allowed, Layout, State};
 use std::ops::Range;
 
 type Answer = Result<usize, Refusal>;
@@ -23,11 +23,13 @@ pub fn state_of(pool: &[u8]) -> Result<State, Refusal> {
     layout::read(pool).map_err(|_| Refusal::NotSound)
 }
 
-pub fn lay_out(pool: &mut Vec<u8>) -> Answer {
+/// By the layout's number.
+pub fn lay_out(pool: &mut Vec<u8>, number: u32) -> Answer {
     if !allowed(pool.len()) {
         return Err(Refusal::NotAllowed);
     }
-    *pool = layout::write(&State::fresh(pool.len()), pool);
+    let layout = Layout::of_number(number).ok_or(Refusal::NoLayout)?;
+    *pool = layout::write(&State::fresh(pool.len(), layout), pool);
     Ok(pool.len())
 }
 

@@ -2,7 +2,9 @@
 //! records and the probe's own edges. Lines worked out by hand stand beside their case.
 
 use crate::layout::{self, distance, put4, NEXT, PREVIOUS, SMALL_NEXT};
+use crate::levels;
 use crate::script::Script;
+use crate::state::Layout;
 use crate::tape::{Request, LONGEST};
 
 pub struct TapeCase {
@@ -45,7 +47,8 @@ pub fn tape_of(requests: &str) -> Vec<u8> {
         let letter = words.next().expect("a request has a letter");
         let number = words.next().map_or(0, |word| word.parse().expect("a 32-bit number"));
         let request = match letter {
-            "L" => Request::LayOut(number),
+            "L" => Request::LayOut(Layout::One, number),
+            "M" => Request::LayOut(Layout::Two, number),
             "T" => Request::Take(number),
             "G" => Request::GiveBack(number),
             "S" => Request::Figures,
@@ -63,7 +66,7 @@ fn lines_of(answers: &str) -> String {
 }
 
 /// Name, requests, answers.
-const BY_HAND: [(&str, &str, &str); 34] = [
+const BY_HAND: [(&str, &str, &str); 40] = [
     ("s = 1 and 4 need 8", "L 1024, T 1, T 4", "L 0 1024, T 0 1020, T 0 1012"),
     ("5 and 12 need 16", "L 1024, T 5, T 12", "L 0 1024, T 0 1012, T 0 996"),
     ("60 needs 64", "L 1024, T 60, G 964", "L 0 1024, T 0 964, G 0 60"),
@@ -183,6 +186,33 @@ const BY_HAND: [(&str, &str, &str); 34] = [
         "L 0 1024, T 0 172, T 0 244, T 0 324, T 0 396, T 0 476, T 0 548, G 0 68, G 0 68, G 0 68, \
          T 0 476, T 0 324, T 0 172",
     ),
+    (
+        "the worked tape on layout 2",
+        "M 1024, T 10, T 100, T 61, T 200, G 172, T 32, T 72, G 172, G 276, T 100, G 556, S",
+        "M 0 1024, T 0 1012, T 0 172, T 0 276, T 0 348, G 0 100, T 0 972, T 0 556, G 5 0, \
+         G 0 68, T 0 172, G 0 76, S 0 4 368 0 1 416 484 404",
+    ),
+    ("M of lengths that are not allowed", "M 0, M 168, M 175, S", "M 1 0, M 1 0, M 1 0, S 1 0"),
+    ("M of the least and the greatest", "M 176, M 65536, M 65544", "M 0 176, M 0 65536, M 1 0"),
+    (
+        "a refused M keeps the old pool, of either layout",
+        "L 1024, T 10, M 168, S, M 1024, T 10, M 65544, L 177, S",
+        "L 0 1024, T 0 1012, M 1 0, S 0 1 16 0 0 840 836 828, M 0 1024, T 0 1012, M 1 0, L 1 0, \
+         S 0 1 16 0 0 840 836 828",
+    ),
+    (
+        "M over an old pool, and L over that",
+        "L 1024, T 100, T 68, G 172, M 512, G 172, T 100, T 68, G 172, S, L 1024, G 172, S",
+        "L 0 1024, T 0 172, T 0 276, G 0 100, M 0 512, G 5 0, T 0 172, T 0 276, G 0 100, \
+         S 0 1 72 0 1 168 268 156, L 0 1024, G 5 0, S 0 0 0 0 0 856 852 844",
+    ),
+    (
+        // 32,768 at 168, 16,384 at 33,008.
+        "bins of heights 13 and 12",
+        "M 65536, T 32764, T 68, T 16380, T 68, G 172, G 33012, T 16380, T 32764, T 32764, S",
+        "M 0 65536, T 0 172, T 0 32940, T 0 33012, T 0 49396, G 0 32764, G 0 16380, T 0 33012, \
+         T 0 172, T 4 0, S 0 4 49296 0 0 16072 16068 16060",
+    ),
 ];
 
 pub fn worked_tape() -> TapeCase {
@@ -211,14 +241,14 @@ fn unreadable_cases() -> Vec<TapeCase> {
     let mut cases = Vec::new();
     let pool = tape_of("L 1024, T 10");
     let done = "1 L 0 1024\n2 T 0 1012\n";
-    for kind in [0u8, 5, 6, 10, 48, 76, 84, 127, 128, 129, 255] {
+    for kind in [0u8, 6, 7, 10, 48, 76, 77, 84, 127, 128, 129, 255] {
         let record = [kind, 0, 4, 0, 0];
         for behind in [0, 4] {
             cases.push(unreadable(&[], "", &record[..1 + behind]));
             cases.push(unreadable(&pool, done, &record[..1 + behind]));
         }
     }
-    for kind in 1u8..=3 {
+    for kind in [1u8, 2, 3, 5] {
         for body in 0..4 {
             let record = [kind, 0, 4, 0];
             cases.push(unreadable(&[], "", &record[..1 + body]));
@@ -277,26 +307,38 @@ fn length_cases() -> Vec<TapeCase> {
 /// Cases of the paper that only the bytes show.
 pub fn probe_cases() -> Vec<ProbeCase> {
     let mut cases = vec![
-        calls_then_dump("fresh 1,024 over zeros", vec![0; 1024], ""),
-        calls_then_dump("fresh 1,024 over 255s", vec![255; 1024], ""),
-        calls_then_dump("first block held, 104 bytes", vec![0; 1024], "T 100"),
-        calls_then_dump("held 72 above a free 104", vec![0; 1024], "T 100, T 68, G 172"),
-        calls_then_dump("free equals at 168 and 400", vec![255; 1024], EQUALS),
-        calls_then_dump("the worked tape's bytes", vec![170; 1024], &WORKED_TAPE[8..]),
+        calls_then_dump("fresh 1,024 over zeros", vec![0; 1024], None, ""),
+        calls_then_dump("fresh 1,024 over 255s", vec![255; 1024], None, ""),
+        calls_then_dump("first block held, 104 bytes", vec![0; 1024], None, "T 100"),
+        calls_then_dump("held 72 above a free 104", vec![0; 1024], None, "T 100, T 68, G 172"),
+        calls_then_dump("free equals at 168 and 400", vec![255; 1024], None, EQUALS),
+        calls_then_dump("the worked tape's bytes", vec![170; 1024], None, &WORKED_TAPE[8..]),
         class_case(),
         every_class_case(),
         false_head_case(),
     ];
     cases.extend(ring_cases());
     cases.extend(forged_cases());
+    cases.extend(levels::probe_cases());
     cases
 }
 
 pub const EQUALS: &str = "T 100, T 124, T 100, T 68, G 172, G 404";
 
-fn calls_then_dump(name: &str, image: Vec<u8>, requests: &str) -> ProbeCase {
+/// Laid out by L, or by M with the number; then the requests, each with a verdict and all bytes.
+pub fn calls_then_dump(
+    name: &str,
+    image: Vec<u8>,
+    layout: Option<u32>,
+    requests: &str,
+) -> ProbeCase {
     let mut script = Script::new();
-    script.image(&image).plain(b'L').plain(b'D');
+    script.image(&image);
+    match layout {
+        None => script.plain(b'L'),
+        Some(number) => script.number(b'M', number),
+    };
+    script.plain(b'D');
     for request in requests.split(',').filter(|request| !request.is_empty()) {
         let words: Vec<&str> = request.split_whitespace().collect();
         match words[..] {
@@ -362,7 +404,7 @@ fn false_head_case() -> ProbeCase {
 /// Lists that close into a ring, on the bin's first block and apart from it: never sound.
 fn ring_cases() -> Vec<ProbeCase> {
     let mut pool = vec![0; 1024];
-    crate::calls::lay_out(&mut pool).unwrap();
+    crate::calls::lay_out(&mut pool, 1).unwrap();
     for s in [68, 76, 68, 76, 68, 76, 4, 4, 4] {
         crate::calls::take(&mut pool, s).unwrap();
     }
@@ -400,7 +442,7 @@ fn ring_cases() -> Vec<ProbeCase> {
 /// stands inside a held payload: sound only where the bin leads to the true one.
 fn forged_cases() -> Vec<ProbeCase> {
     let mut pool = vec![0; 65_536];
-    crate::calls::lay_out(&mut pool).unwrap();
+    crate::calls::lay_out(&mut pool, 1).unwrap();
     assert_eq!(crate::calls::take(&mut pool, 4), Ok(65_532));
     assert_eq!(crate::calls::take(&mut pool, 20), Ok(65_508));
     crate::calls::give_back(&mut pool, 65_532).unwrap();
@@ -415,7 +457,7 @@ fn forged_cases() -> Vec<ProbeCase> {
     ]
 }
 
-fn verdict_case(name: &str, image: &[u8], verdict: &str) -> ProbeCase {
+pub fn verdict_case(name: &str, image: &[u8], verdict: &str) -> ProbeCase {
     let mut script = Script::new();
     script.image(image).plain(b'N');
     let lines = Some(format!("I 0 {}\n{}\n", image.len(), verdict));
@@ -434,7 +476,7 @@ pub fn probe_edges() -> Vec<ProbeCase> {
         cases.push(case(format!("D, letter {}", letter), after, stop("D 0 0 -\n")));
     }
     for (letter, body) in
-        [(b'I', 10), (b'T', 4), (b'G', 4), (b'A', 4), (b'P', 4), (b'W', 14), (b'C', 4)]
+        [(b'I', 10), (b'T', 4), (b'G', 4), (b'A', 4), (b'P', 4), (b'W', 14), (b'C', 4), (b'M', 4)]
     {
         for length in 0..body {
             let input = short_body(letter, length);
@@ -484,7 +526,14 @@ fn counts_too_great() -> Vec<ProbeCase> {
 }
 
 fn every_call(script: &mut Script) {
-    script.plain(b'L').plain(b'N').number(b'T', 8).number(b'T', 0).number(b'G', 172);
+    script
+        .plain(b'L')
+        .number(b'M', 2)
+        .number(b'M', 9)
+        .plain(b'N')
+        .number(b'T', 8)
+        .number(b'T', 0)
+        .number(b'G', 172);
     script.number(b'A', 172).number(b'P', 172).write_part(172, &[1, 2, 3]).write_part(0, &[]);
     script.plain(b'S').number(b'C', 53).number(b'C', 0).number(b'C', 64).plain(b'D');
 }
@@ -492,7 +541,7 @@ fn every_call(script: &mut Script) {
 fn every_call_refused() -> String {
     let sevens = |k: usize| " 7".repeat(k);
     format!(
-        "L 1 0\nN 1 0\nT 1 0\nT 1 0\nG 1 0\nA 1 0\nP 1 0 0 -\nW 1 0 0\nW 1 0 0\nS 1 0\n\
+        "L 1 0\nM 1 0\nM 1 0\nN 1 0\nT 1 0\nT 1 0\nG 1 0\nA 1 0\nP 1 0 0 -\nW 1 0 0\nW 1 0 0\nS 1 0\n\
          C 1 0{}\nC 1 0\nC 1 0{}\nD 0 0 -\n",
         sevens(53),
         sevens(64)

@@ -1,7 +1,7 @@
 //! Holds two other programs, a tape program and a probe, against this one, byte for byte.
 
 use crate::banks;
-use crate::branches::{self, Counts, Outcome};
+use crate::branches::{self, Counts, Outcome, Taken};
 use crate::cases;
 use crate::child::{self, Fault};
 use crate::damage;
@@ -10,7 +10,7 @@ use crate::random::Random;
 use crate::report::{Program, Report};
 use crate::rules;
 use crate::script::Script;
-use crate::state::State;
+use crate::state::{Layout, State};
 use crate::tape::Request;
 use crate::tapes::{edge_size, joining_offset, odd_offset, payload_of, random_tape};
 use crate::{layout, probe, tape};
@@ -19,7 +19,8 @@ use std::path::PathBuf;
 pub const TAPES: u64 = 2_400;
 const IMAGES: u64 = 1_200;
 const RUNS: u64 = 300;
-const DAMAGED: u64 = 6_250;
+const TALL: u64 = 60;
+const DAMAGED: u64 = 8_000;
 /// Images that one probe process serves.
 const BATCH: usize = 25;
 
@@ -164,15 +165,24 @@ impl Compare {
     fn branches(&mut self, by_tapes: &Counts, by_images: &Counts) {
         print_branches(by_tapes, by_images);
         self.report.begin("branches taken");
-        for (name, count) in by_tapes.table() {
-            self.report.check(count > 0, &format!("never taken by a tape: {}", name));
+        for (name, taken) in by_tapes.table() {
+            self.taken(&name, taken, "by a tape");
         }
-        for (name, count) in by_images.table() {
+        for (name, taken) in by_images.table() {
             if branches::of_a_pool(&name) {
-                self.report.check(count > 0, &format!("never taken on an image: {}", name));
+                self.taken(&name, taken, "on an image");
             }
         }
         self.report.end();
+    }
+
+    fn taken(&mut self, name: &str, taken: Taken, how: &str) {
+        for layout in Layout::BOTH {
+            if branches::of_layout(name, layout) {
+                let what = format!("never taken {} in layout {}: {}", how, layout.number(), name);
+                self.report.check(taken[layout as usize - 1] > 0, &what);
+            }
+        }
     }
 
     fn sound_images(&mut self, counts: &mut Counts) {
@@ -190,6 +200,9 @@ impl Compare {
             let input = every_call(state, &bytes, 2, &mut random, counts);
             self.batch(&[Case { name, input }]);
         }
+        self.report.end();
+        self.report.begin("images with tall bins");
+        self.batches(TALL, |number| tall_case(seed, number, counts));
         self.report.end();
         self.report.begin("runs of calls on one image");
         self.batches(RUNS, |number| run_case(seed, number, counts));
@@ -253,10 +266,18 @@ fn print_bank_branches(counts: &banks::Counts) {
 }
 
 pub fn print_branches(by_tapes: &Counts, by_images: &Counts) {
-    println!("branches taken by random tapes, and on images with every byte compared:");
+    println!("branches taken by random tapes, and on images with every byte compared;");
+    println!("of each, the first column is layout 1 and the second layout 2:");
     for ((name, tapes), (_, images)) in by_tapes.table().into_iter().zip(by_images.table()) {
-        let images = if branches::of_a_pool(&name) { images.to_string() } else { "-".to_string() };
-        println!("{:>8} {:>8}  {}", tapes, images, name);
+        let all = branches::of_a_pool(&name);
+        let columns = [(tapes, true), (images, all)].map(|(taken, there)| {
+            Layout::BOTH.map(|layout| match there && branches::of_layout(&name, layout) {
+                true => taken[layout as usize - 1].to_string(),
+                false => "-".to_string(),
+            })
+        });
+        let [[tapes1, tapes2], [images1, images2]] = columns;
+        println!("{:>8} {:>8} {:>8} {:>8}  {}", tapes1, tapes2, images1, images2, name);
     }
 }
 
@@ -265,6 +286,7 @@ pub fn count(seed: u64) {
     let (mut by_tapes, mut by_images) = (Counts::new(), Counts::new());
     (0..TAPES).for_each(|number| drop(random_tape(seed, number, &mut by_tapes)));
     (0..IMAGES).for_each(|number| drop(sound_image_case(seed, number, &mut by_images)));
+    (0..TALL).for_each(|number| drop(tall_case(seed, number, &mut by_images)));
     (0..RUNS).for_each(|number| drop(run_case(seed, number, &mut by_images)));
     print_branches(&by_tapes, &by_images);
     let mut counts = banks::Counts::new();
@@ -343,6 +365,9 @@ fn every_call(
         script.image(bytes).write_part(offset, &content).plain(b'N').plain(b'D');
     }
     script.image(bytes).plain(b'L').plain(b'N').plain(b'D');
+    script.image(bytes).number(b'M', 2).plain(b'N').plain(b'D');
+    let number = *random.pick(&[0, 1, 3, 13, 257, 258, u32::MAX]);
+    script.image(bytes).number(b'M', number).plain(b'N').plain(b'D');
     script.input
 }
 
@@ -396,6 +421,28 @@ fn some_size(state: &State, random: &mut Random) -> u32 {
     }
     let any = random.between(1, 200) as u32;
     edge_size(state, random).unwrap_or(any)
+}
+
+/// Takes and give-backs in a great pool whose bins reach the high levels, each on the image anew.
+fn tall_case(seed: u64, number: u64, counts: &mut Counts) -> Case {
+    let mut random = Random::of_case(seed, 15, number);
+    let state = images::tall_state(&mut random);
+    let old = random.bytes(state.n);
+    let bytes = layout::write(&state, &old);
+    let mut script = Script::new();
+    script.image(&bytes).plain(b'N').plain(b'S');
+    for _ in 0..4 {
+        let s = some_size(&state, &mut random);
+        let _ = changing(script.image(&bytes), &state, Request::Take(s), counts);
+        let tallest = state.low.iter().filter(|block| block.held);
+        let tallest = tallest.max_by_key(|block| (state.layout.height(block.size), block.start));
+        let offset = match tallest.filter(|_| random.chance(1, 2)) {
+            Some(block) => block.start as u32 + 4,
+            None => held_offset(&state, &mut random),
+        };
+        let _ = changing(script.image(&bytes), &state, Request::GiveBack(offset), counts);
+    }
+    Case { name: format!("seed {}, tall bins {}", seed, number), input: script.input }
 }
 
 /// Calls one after another on one image, each with a dump, so that old bytes show through.

@@ -4,16 +4,24 @@
 use crate::layout;
 use crate::random::Random;
 use crate::rules;
-use crate::state::{Bins, Block, State, LEAST_REMAINDER, LOW_RUN};
+use crate::state::{Bins, Block, Layout, State, LEAST_LARGE, LEAST_REMAINDER, LOW_RUN};
 use crate::tapes::{edge_size, payload_of};
 
 pub fn random_image(random: &mut Random, n: usize) -> (State, Vec<u8>) {
-    let state = random_state(random, n);
+    let state = of_either_layout(random, n);
     let old = random.bytes(n);
     let bytes = layout::write(&state, &old);
     (state, bytes)
 }
 
+pub fn of_either_layout(random: &mut Random, n: usize) -> State {
+    let mut state =
+        if random.chance(1, 4) { many_bins(random, n) } else { random_state(random, n) };
+    state.layout = *random.pick(&Layout::BOTH);
+    state
+}
+
+/// Of layout 1.
 pub fn random_state(random: &mut Random, n: usize) -> State {
     if random.chance(1, 3) {
         reached(random, n)
@@ -39,7 +47,7 @@ fn few_sizes(random: &mut Random, least: usize, greatest: usize) -> Vec<usize> {
 }
 
 fn reached(random: &mut Random, n: usize) -> State {
-    let mut state = State::fresh(n);
+    let mut state = State::fresh(n, Layout::One);
     let top = *random.pick(&[80, 160, n / 4]);
     let mut sizes = few_sizes(random, 72, top);
     sizes.extend(few_sizes(random, 8, 64));
@@ -64,7 +72,7 @@ fn reached(random: &mut Random, n: usize) -> State {
 fn put_together(random: &mut Random, n: usize) -> State {
     let room = n - LOW_RUN - LEAST_REMAINDER;
     let low_room = if random.chance(1, 4) { room } else { random.below(room / 8 + 1) * 8 };
-    let mut state = State::fresh(n);
+    let mut state = State::fresh(n, Layout::One);
     state.low = low_run(random, low_room);
     let left = room - (state.remainder_start() - LOW_RUN);
     let high_room = if random.chance(1, 3) { left } else { random.below(left + 1) };
@@ -72,6 +80,38 @@ fn put_together(random: &mut Random, n: usize) -> State {
     state.large_bins = bins_in_any_order(random, &state.low);
     state.small_bins = bins_in_any_order(random, &state.high);
     state
+}
+
+/// Free blocks of many sizes, whose bins reach many levels, with held ones between them.
+fn many_bins(random: &mut Random, n: usize) -> State {
+    let room = n - LOW_RUN - LEAST_REMAINDER;
+    let count = random.between(2, 60);
+    let held = *random.pick(&[72, 80, 128]);
+    let free = few_tall_sizes(random, room / 2, count);
+    let sizes = |i: usize| if i % 2 == 0 { free[i % free.len()] } else { held };
+    let sizes: Vec<usize> = (0..2 * count).map(sizes).collect();
+    let mut state = State::fresh(n, Layout::One);
+    state.low = alternating(&sizes, room);
+    state.large_bins = bins_in_any_order(random, &state.low);
+    state
+}
+
+fn few_tall_sizes(random: &mut Random, most: usize, count: usize) -> Vec<usize> {
+    let different = random.between(1, count);
+    (0..different).map(|_| tall_size(random, most)).collect()
+}
+
+/// The size of a large block that reaches a level that was drawn, or near it.
+pub fn tall_size(random: &mut Random, most: usize) -> usize {
+    let unit = 8 << random.below(13);
+    let most_times = *random.pick(&[1, 3, 9, 40]);
+    let times = random.between(1, most_times);
+    let size = (unit * times).max((LEAST_LARGE + unit - 1) / unit * unit);
+    if size <= most {
+        size
+    } else {
+        LEAST_LARGE + 8 * random.below(8)
+    }
 }
 
 fn low_run(random: &mut Random, room: usize) -> Vec<Block> {
@@ -130,15 +170,50 @@ pub fn bins_in_any_order(random: &mut Random, run: &[Block]) -> Bins {
     bins
 }
 
+/// A great pool of either layout with blocks whose bins reach the high levels, held and free; often
+/// one of them reaches the thirteenth.
+pub fn tall_state(random: &mut Random) -> State {
+    let n = 65_536 - 8 * random.below(1_000);
+    let room = n - LOW_RUN - LEAST_REMAINDER;
+    let few = [2_048, 4_096, 4_096, 8_192, 2_048 * random.between(1, 7), 72, 72, 128, 96];
+    let mut sizes: Vec<usize> = (0..random.between(6, 60)).map(|_| *random.pick(&few)).collect();
+    if random.chance(4, 5) {
+        let place = random.below(3);
+        sizes.insert(place, 32_768);
+    }
+    let mut state = State::fresh(n, *random.pick(&Layout::BOTH));
+    state.low = alternating(&sizes, room);
+    let mut below_held = true;
+    for block in &mut state.low {
+        block.held = !below_held || random.chance(1, 2);
+        below_held = block.held;
+    }
+    if let Some(last) = state.low.last_mut() {
+        last.held = true;
+    }
+    state.large_bins = bins_in_any_order(random, &state.low);
+    state
+}
+
 /// A pool of n bytes that is full of held 8-byte blocks.
 pub fn full_of_small(n: usize) -> State {
-    let mut state = State::fresh(n);
+    let mut state = State::fresh(n, Layout::One);
     let first = LOW_RUN + LEAST_REMAINDER;
     state.high = (first..n).step_by(8).map(|start| Block { start, size: 8, held: true }).collect();
     state
 }
 
-/// Pools of the greatest size at their limits: most small blocks, most large blocks, most bins.
+/// How many there are of `extreme_states`.
+pub const EXTREMES: usize = 16;
+
+/// Sizes of free blocks whose bins reach all thirteen levels, in no order; every second is held.
+const TALL: [usize; 20] = [
+    128, 72, 32_768, 72, 256, 72, 8_192, 72, 16_384, 72, 512, 72, 4_096, 72, 1_024, 72, 384, 72,
+    176, 72,
+];
+
+/// Pools of the greatest size at their limits, each in both layouts: most small blocks, most large
+/// blocks, most bins, tallest bins.
 pub fn extreme_states(random: &mut Random) -> Vec<State> {
     let n = crate::state::GREATEST_POOL;
     let room = n - LOW_RUN - LEAST_REMAINDER;
@@ -154,18 +229,24 @@ pub fn extreme_states(random: &mut Random) -> Vec<State> {
     states.push(small);
     states.push(all_free);
     for sizes in [equal, rising, mixed] {
-        let mut state = State::fresh(n);
+        let mut state = State::fresh(n, Layout::One);
         state.low = alternating(&sizes, room);
         states.push(state);
     }
-    let mut whole = State::fresh(n);
+    let mut whole = State::fresh(n, Layout::One);
     whole.low.push(Block { start: LOW_RUN, size: room, held: true });
     states.push(whole);
-    states.push(State::fresh(n));
+    states.push(State::fresh(n, Layout::One));
+    let mut tall = State::fresh(n, Layout::One);
+    tall.low = alternating(&TALL, room);
+    states.push(tall);
     for state in &mut states {
         state.large_bins = bins_in_any_order(random, &state.low);
         state.small_bins = bins_in_any_order(random, &state.high);
     }
+    let second = states.iter().map(|state| State { layout: Layout::Two, ..state.clone() });
+    let second: Vec<State> = second.collect();
+    states.extend(second);
     states
 }
 

@@ -1,19 +1,24 @@
 //! The state as bytes. Writing lays all governed words of a state over the old bytes; reading
 //! rebuilds the one state that could be meant and then holds every governed word against the bytes.
 
-use crate::state::{allowed, Bins, Block, State, FALSE_BLOCK, GREATEST_SMALL, LOW_RUN};
+use crate::state::{allowed, Bins, Block, Layout, State, FALSE_BLOCK, GREATEST_SMALL, LOW_RUN};
 
 /// Places of words, from a block's start or from the pool's first byte.
 pub const FREE_WORD: usize = 0;
 pub const R_WORD: usize = 16;
 pub const E_WORD: usize = 24;
-pub const FALSE_CHAIN: usize = FALSE_BLOCK + 64;
 pub const PREVIOUS: usize = 4;
 pub const NEXT: usize = 8;
 pub const LEVEL: usize = 12;
+/// The index word of the lowest level, and the only one in layout 1.
 pub const CHAIN: usize = 64;
 /// A free small block's only link.
 pub const SMALL_NEXT: usize = 4;
+
+/// The index word of a level, counted from 1; each higher one stands 4 bytes before.
+pub fn index_word(level: usize) -> usize {
+    CHAIN + 4 - 4 * level
+}
 
 /// The 8-byte word that names the first block of a small bin.
 pub fn small_bin_word(size: usize) -> usize {
@@ -51,7 +56,9 @@ pub type Word = (usize, u32);
 pub fn governed(state: &State) -> Vec<Word> {
     let mut words = Vec::new();
     opening_words(state, &mut words);
-    false_block_words(state, &mut words);
+    let index = index_words(state.layout, &state.firsts());
+    false_block_zeros(&index, &mut words);
+    words.extend(index);
     head_words(state, &mut words);
     small_list_words(&state.small_bins, &mut words);
     large_list_words(&state.large_bins, &mut words);
@@ -71,15 +78,29 @@ fn opening_words(state: &State, words: &mut Vec<Word>) {
     }
 }
 
-fn false_block_words(state: &State, words: &mut Vec<Word>) {
-    for at in (FALSE_BLOCK..LOW_RUN).step_by(4) {
-        let value = match at - FALSE_BLOCK {
-            LEVEL => 1,
-            CHAIN => chain_distance(FALSE_BLOCK, state.large_bins.values().next()),
-            _ => 0,
-        };
-        words.push((at, value));
+/// The level word and the index words of the false block and of these first blocks, each given by
+/// its start and its bin's size, in the order in which the index meets them. A word leads to the
+/// next of them that reaches its level, and is 0 where none does.
+pub fn index_words(layout: Layout, firsts: &[(usize, usize)]) -> Vec<Word> {
+    let mut towers = vec![(FALSE_BLOCK, layout.levels())];
+    towers.extend(firsts.iter().map(|(start, size)| (*start, layout.height(*size))));
+    let mut words = Vec::new();
+    for (place, (start, height)) in towers.iter().enumerate() {
+        words.push((start + LEVEL, *height as u32));
+        for level in 1..=*height {
+            let next = towers[place + 1..].iter().find(|(_, other)| *other >= level);
+            let value = next.map_or(0, |(to, _)| distance(*start, *to));
+            words.push((start + index_word(level), value));
+        }
     }
+    words
+}
+
+/// What the index leaves of the false block is 0 and governed.
+fn false_block_zeros(index: &[Word], words: &mut Vec<Word>) {
+    let rest = (FALSE_BLOCK..LOW_RUN).step_by(4);
+    let rest = rest.filter(|at| index.iter().all(|(there, _)| there != at));
+    words.extend(rest.map(|at| (at, 0)));
 }
 
 fn head_words(state: &State, words: &mut Vec<Word>) {
@@ -109,23 +130,14 @@ fn small_list_words(bins: &Bins, words: &mut Vec<Word>) {
 }
 
 fn large_list_words(bins: &Bins, words: &mut Vec<Word>) {
-    let lists: Vec<&Vec<usize>> = bins.values().collect();
-    for (place, starts) in lists.iter().enumerate() {
+    for starts in bins.values() {
         for (index, start) in starts.iter().enumerate() {
             let previous = index.checked_sub(1).map_or(*start, |before| starts[before]);
             let next = starts.get(index + 1).unwrap_or(start);
             words.push((start + PREVIOUS, distance(*start, previous)));
             words.push((start + NEXT, distance(*start, *next)));
         }
-        words.push((starts[0] + LEVEL, 1));
-        let larger = lists.get(place + 1).copied();
-        words.push((starts[0] + CHAIN, chain_distance(starts[0], larger)));
     }
-}
-
-/// From a chain word's block to the first block of the next bin; 0 where there is none.
-fn chain_distance(from: usize, bin: Option<&Vec<usize>>) -> u32 {
-    bin.map_or(0, |starts| distance(from, starts[0]))
 }
 
 /// The old bytes with all governed words of the state laid over them.
@@ -142,7 +154,7 @@ pub fn read(bytes: &[u8]) -> Result<State, String> {
     if !allowed(bytes.len()) {
         return Err(format!("a pool of {} bytes is not allowed", bytes.len()));
     }
-    let mut state = State::fresh(bytes.len());
+    let mut state = State::fresh(bytes.len(), layout_of(bytes)?);
     let start = place(bytes, R_WORD)?;
     let end = place(bytes, E_WORD)?;
     state.low = walk(bytes, LOW_RUN, start)?;
@@ -157,6 +169,13 @@ pub fn read(bytes: &[u8]) -> Result<State, String> {
         }
         None => Ok(state),
     }
+}
+
+/// The false block's level word tells the layouts apart.
+fn layout_of(bytes: &[u8]) -> Result<Layout, String> {
+    let levels = get4(bytes, FALSE_BLOCK + LEVEL);
+    let found = Layout::BOTH.into_iter().find(|layout| layout.levels() == levels as usize);
+    found.ok_or_else(|| format!("no layout has {} levels", levels))
 }
 
 /// An 8-byte word that has to be an offset in the pool or its end.
@@ -212,7 +231,8 @@ fn small_lists(bytes: &[u8], run: &[Block]) -> Result<Bins, String> {
     Ok(bins)
 }
 
-/// Bins are filed by size; a chain that does not rise is then seen by the comparison.
+/// Along the lowest level. Bins are filed by size; a level that does not rise, and all that stands
+/// in the others, is then seen by the comparison.
 fn large_lists(bytes: &[u8], run: &[Block]) -> Result<Bins, String> {
     let mut bins = Bins::new();
     let mut from = FALSE_BLOCK;

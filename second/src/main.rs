@@ -30,6 +30,7 @@ mod compare;
 mod damage;
 mod images;
 mod layout;
+mod levels;
 mod pools;
 mod probe;
 mod random;

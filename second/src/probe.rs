@@ -3,7 +3,7 @@
 use crate::bank::{self, Bank, PISTONS};
 use crate::calls;
 use crate::rules::Refusal;
-use crate::state::GREATEST_POOL;
+use crate::state::{Layout, GREATEST_POOL};
 use crate::tape::{figures_line, unreadable_line};
 use std::fmt::Write;
 
@@ -15,6 +15,8 @@ const GREATEST_BODY: usize = 64;
 pub enum Command<'a> {
     Image(&'a [u8]),
     LayOut,
+    /// By the layout's number.
+    LayOutAs(u32),
     Inspect,
     Take(u32),
     GiveBack(u32),
@@ -83,6 +85,7 @@ impl<'a> Reader<'a> {
                 Command::Image(self.bytes(n)?)
             }
             b'L' => Command::LayOut,
+            b'M' => Command::LayOutAs(self.number()?),
             b'N' => Command::Inspect,
             b'T' => Command::Take(self.number()?),
             b'G' => Command::GiveBack(self.number()?),
@@ -188,7 +191,8 @@ impl Bench {
                 *pool = bytes.to_vec();
                 format!("I 0 {}", pool.len())
             }
-            Command::LayOut => answer_line('L', calls::lay_out(pool)),
+            Command::LayOut => answer_line('L', calls::lay_out(pool, Layout::One.number())),
+            Command::LayOutAs(number) => answer_line('M', calls::lay_out(pool, number)),
             Command::Inspect => answer_line('N', calls::inspect(pool)),
             Command::Take(s) => answer_line('T', calls::take(pool, s)),
             Command::GiveBack(offset) => answer_line('G', calls::give_back(pool, offset)),

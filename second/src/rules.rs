@@ -12,6 +12,7 @@ pub enum Refusal {
     NotHeld = 5,
     ListLength = 6,
     Unreadable = 7,
+    NoLayout = 8,
     /// From here on the piston bank's own.
     NoPiston = 10,
     NotARecord = 11,

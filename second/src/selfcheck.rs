@@ -7,10 +7,11 @@ use crate::cases;
 use crate::damage;
 use crate::images;
 use crate::layout::{self, get4, get8};
+use crate::levels;
 use crate::random::Random;
 use crate::report::Report;
 use crate::rules::{self, class_of, class_size, need};
-use crate::state::State;
+use crate::state::{Layout, State};
 use crate::tape::Request;
 use crate::tapes::random_tape;
 use crate::{calls, probe, tape};
@@ -24,7 +25,9 @@ pub fn run(seed: u64, keep: &Path) -> bool {
     let mut report = Report::new(keep);
     by_hand(&mut report);
     starred(&mut report);
+    index_words(&mut report);
     random_runs(&mut report, seed);
+    layouts_alike(&mut report, seed);
     sound_images(&mut report, seed);
     damaged_images(&mut report, seed);
     bank_laws(&mut report, seed);
@@ -54,7 +57,7 @@ fn by_hand(report: &mut Report) {
 /// A pool of 1,024 bytes after some requests.
 fn pool_after(requests: &str) -> Vec<u8> {
     let mut pool = vec![0; 1024];
-    calls::lay_out(&mut pool).expect("1,024 is allowed");
+    calls::lay_out(&mut pool, 1).expect("1,024 is allowed");
     let tape = cases::tape_of(requests);
     let mut rest = &tape[..];
     while let Some((request, length)) = Request::read(rest) {
@@ -89,6 +92,60 @@ fn starred(report: &mut Report) {
     report.check(class_of(12) == 2 && class_of(60) == 12, "classes of 12 and 60");
     let sizes: Vec<usize> = (0..8).chain([51, 52]).map(class_size).collect();
     report.check(sizes == [8, 10, 12, 14, 16, 20, 24, 28, 57_344, 65_536], "the class table");
+    report.end();
+}
+
+fn index_words(report: &mut Report) {
+    report.begin("words of the index");
+    for (name, wrong) in levels::words_by_hand() {
+        report.check(wrong.is_none(), &format!("{}: {:?}", name, wrong));
+    }
+    for (size, height) in
+        [(72, 1), (80, 2), (88, 1), (96, 3), (128, 5), (192, 4), (4_096, 10), (16_384, 12)]
+    {
+        let name = format!("a bin of {} has height {}", size, height);
+        report.check(Layout::Two.height(size) == height, &name);
+        report.check(Layout::One.height(size) == 1, &format!("and in layout 1 {} has 1", size));
+    }
+    let top = [32_768, 65_536].map(|size| Layout::Two.height(size));
+    report.check(top == [13, 13], "no bin is higher than 13");
+    report.end();
+}
+
+/// The tape with each laying out in the other layout.
+fn other_tape(tape: &[u8]) -> Vec<u8> {
+    let mut other = Vec::new();
+    let mut rest = tape;
+    while let Some((request, length)) = Request::read(rest) {
+        match request {
+            Request::LayOut(layout, n) => Request::LayOut(layout.other(), n),
+            same => same,
+        }
+        .append_to(&mut other);
+        rest = &rest[length..];
+    }
+    other.extend(rest);
+    other
+}
+
+/// One tape answers alike on both layouts, apart from the layout letter.
+fn layouts_alike(report: &mut Report, seed: u64) {
+    report.begin("tapes on both layouts");
+    for number in 0..TAPES {
+        let tape = random_tape(seed, number, &mut Counts::new());
+        let swap = |line: &str| match line.split_once(' ') {
+            Some((record, rest)) if rest.starts_with('L') => {
+                format!("{} M{}\n", record, &rest[1..])
+            }
+            Some((record, rest)) if rest.starts_with('M') => {
+                format!("{} L{}\n", record, &rest[1..])
+            }
+            _ => format!("{}\n", line),
+        };
+        let swapped: String = tape::run(&tape).lines().map(swap).collect();
+        let alike = tape::run(&other_tape(&tape)) == swapped;
+        report.check(alike, &format!("seed {}, tape {}", seed, number));
+    }
     report.end();
 }
 
@@ -162,9 +219,9 @@ fn replay(report: &mut Report, tape: &[u8], random: &mut Random) -> Result<(), S
         };
         rest = &rest[length..];
         let outcome = match (&state, request) {
-            (_, Request::LayOut(n)) if crate::state::allowed(n as usize) => {
+            (_, Request::LayOut(layout, n)) if crate::state::allowed(n as usize) => {
                 pool = random.bytes(n as usize);
-                Ok((State::fresh(n as usize), n as usize))
+                Ok((State::fresh(n as usize, layout), n as usize))
             }
             (Some(state), Request::Take(s)) => rules::take(state, s),
             (Some(state), Request::GiveBack(offset)) => rules::give_back(state, offset),
@@ -192,7 +249,7 @@ fn sound_images(report: &mut Report, seed: u64) {
     for number in 0..IMAGES {
         let mut random = Random::of_case(seed, 3, number);
         let n = images::random_pool_size(&mut random);
-        states.push(images::random_state(&mut random, n));
+        states.push(images::of_either_layout(&mut random, n));
     }
     for (number, state) in states.iter().enumerate() {
         let old = random.bytes(state.n);

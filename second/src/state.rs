@@ -15,6 +15,46 @@ pub fn allowed(n: usize) -> bool {
     n % 8 == 0 && (LEAST_POOL..=GREATEST_POOL).contains(&n)
 }
 
+/// How the bins are indexed (request 2026-04). Blocks, lists and every answer are the same in both.
+#[derive(Clone, Copy, Debug, PartialEq, Eq)]
+pub enum Layout {
+    One = 1,
+    Two = 2,
+}
+
+impl Layout {
+    pub const BOTH: [Layout; 2] = [Layout::One, Layout::Two];
+
+    pub fn number(self) -> u32 {
+        self as u32
+    }
+
+    pub fn of_number(number: u32) -> Option<Layout> {
+        Layout::BOTH.into_iter().find(|layout| layout.number() == number)
+    }
+
+    pub fn other(self) -> Layout {
+        match self {
+            Layout::One => Layout::Two,
+            Layout::Two => Layout::One,
+        }
+    }
+
+    /// How many levels the index has, all of which start at the false block.
+    pub fn levels(self) -> usize {
+        match self {
+            Layout::One => 1,
+            Layout::Two => 13,
+        }
+    }
+
+    /// How many levels a bin of this size reaches: 1, and one more each time that size / 8 can be
+    /// halved.
+    pub fn height(self, size: usize) -> usize {
+        1 + (1..self.levels()).take_while(|times| size % (8 << times) == 0).count()
+    }
+}
+
 #[derive(Clone, Copy, Debug, PartialEq, Eq)]
 pub struct Block {
     pub start: usize,
@@ -34,6 +74,7 @@ pub type Bins = BTreeMap<usize, Vec<usize>>;
 #[derive(Clone, Debug, PartialEq, Eq)]
 pub struct State {
     pub n: usize,
+    pub layout: Layout,
     /// Large blocks from 168 to R.
     pub low: Vec<Block>,
     /// Small blocks from E to n.
@@ -43,9 +84,10 @@ pub struct State {
 }
 
 impl State {
-    pub fn fresh(n: usize) -> State {
+    pub fn fresh(n: usize, layout: Layout) -> State {
         State {
             n,
+            layout,
             low: Vec::new(),
             high: Vec::new(),
             small_bins: Bins::new(),
@@ -81,6 +123,11 @@ impl State {
 
     pub fn free_word(&self) -> usize {
         self.free().map(|block| block.size).sum::<usize>() + self.remainder_size() - 4
+    }
+
+    /// Start and size of each large bin's first block, smallest bin first.
+    pub fn firsts(&self) -> Vec<(usize, usize)> {
+        self.large_bins.iter().map(|(size, starts)| (starts[0], *size)).collect()
     }
 
     pub fn well_formed(&self) -> Result<(), String> {

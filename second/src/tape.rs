@@ -2,14 +2,14 @@
 
 use crate::calls;
 use crate::rules::Refusal;
-use crate::state::{allowed, GREATEST_POOL};
+use crate::state::{allowed, Layout, GREATEST_POOL};
 use std::fmt::Write;
 
 pub const LONGEST: usize = 32_768;
 
 #[derive(Clone, Copy, Debug, PartialEq, Eq)]
 pub enum Request {
-    LayOut(u32),
+    LayOut(Layout, u32),
     Take(u32),
     GiveBack(u32),
     Figures,
@@ -18,10 +18,11 @@ pub enum Request {
 impl Request {
     pub fn append_to(self, tape: &mut Vec<u8>) {
         let (kind, number) = match self {
-            Request::LayOut(n) => (1, Some(n)),
+            Request::LayOut(Layout::One, n) => (1, Some(n)),
             Request::Take(s) => (2, Some(s)),
             Request::GiveBack(offset) => (3, Some(offset)),
             Request::Figures => (4, None),
+            Request::LayOut(Layout::Two, n) => (5, Some(n)),
         };
         tape.push(kind);
         if let Some(number) = number {
@@ -38,11 +39,20 @@ impl Request {
         let body = tape.get(1..5)?;
         let number = u32::from_le_bytes([body[0], body[1], body[2], body[3]]);
         match kind {
-            1 => Some((Request::LayOut(number), 5)),
+            1 => Some((Request::LayOut(Layout::One, number), 5)),
             2 => Some((Request::Take(number), 5)),
             3 => Some((Request::GiveBack(number), 5)),
+            5 => Some((Request::LayOut(Layout::Two, number), 5)),
             _ => None,
         }
+    }
+}
+
+/// What the two kinds of laying out print.
+pub fn layout_letter(layout: Layout) -> char {
+    match layout {
+        Layout::One => 'L',
+        Layout::Two => 'M',
     }
 }
 
@@ -53,20 +63,20 @@ struct Run {
 }
 
 impl Run {
-    fn lay_out(&mut self, n: u32) -> Result<usize, Refusal> {
+    fn lay_out(&mut self, layout: Layout, n: u32) -> Result<usize, Refusal> {
         if !allowed(n as usize) {
             return Err(Refusal::NotAllowed);
         }
         let old = self.pool.len();
         self.buffer[..old].copy_from_slice(&self.pool);
         self.pool = self.buffer[..n as usize].to_vec();
-        calls::lay_out(&mut self.pool)
+        calls::lay_out(&mut self.pool, layout.number())
     }
 
     /// A record's line without its number.
     fn serve(&mut self, request: Request) -> String {
         let (letter, answer) = match request {
-            Request::LayOut(n) => ('L', self.lay_out(n)),
+            Request::LayOut(layout, n) => (layout_letter(layout), self.lay_out(layout, n)),
             Request::Take(s) => ('T', calls::take(&mut self.pool, s)),
             Request::GiveBack(offset) => ('G', calls::give_back(&mut self.pool, offset)),
             Request::Figures => return figures_line(&self.pool),

@@ -2,9 +2,10 @@
 //! neighbours and edges instead of being refused most of the time.
 
 use crate::branches::Counts;
+use crate::images::tall_size;
 use crate::random::Random;
 use crate::rules;
-use crate::state::{allowed, State};
+use crate::state::{allowed, Layout, State};
 use crate::tape::{Request, LONGEST};
 
 /// What one tape is like.
@@ -51,7 +52,19 @@ fn random_style(random: &mut Random, number: u64) -> Style {
         _ => 7_000,
     };
     let odd = *random.pick(&[2, 10, 10, 30]);
+    if number % 16 == 15 {
+        return tall_style(random, records, odd);
+    }
     Style { n, blocks: random_sizes(random, n), records, odd }
+}
+
+/// A great pool and few sizes, whose bins reach the highest levels.
+fn tall_style(random: &mut Random, records: usize, odd: usize) -> Style {
+    let n = 65_536 - 8 * random.below(500);
+    let tall = [2_048, 4_096, 8_192, 16_384, 32_768];
+    let mut blocks: Vec<usize> = (0..random.between(1, 3)).map(|_| *random.pick(&tall)).collect();
+    blocks.extend([72, 80]);
+    Style { n, blocks, records, odd }
 }
 
 /// A handful of block sizes, most of them large, some of them sums of others.
@@ -64,6 +77,10 @@ fn random_sizes(random: &mut Random, n: usize) -> Vec<usize> {
     };
     let count = random.between(1, 6);
     let mut sizes: Vec<usize> = (0..count).map(|_| random.between(9, greatest / 8) * 8).collect();
+    if random.chance(1, 4) {
+        // Bins that reach many levels.
+        sizes = (0..count + 1).map(|_| tall_size(random, (n / 4).max(72))).collect();
+    }
     for _ in 0..random.below(3) {
         let sum = *random.pick(&sizes) + *random.pick(&sizes);
         sizes.push(sum);
@@ -80,7 +97,8 @@ impl Maker<'_> {
             self.before_any_pool();
         }
         let n = self.style.n as u32;
-        self.step(Request::LayOut(n));
+        let layout = *self.random.pick(&Layout::BOTH);
+        self.step(Request::LayOut(layout, n));
         // Runs of mostly taking and mostly giving back, to fill the pool and to scatter it.
         let mut takes = 90;
         let mut change = self.random.between(5, 60);
@@ -107,7 +125,7 @@ impl Maker<'_> {
     fn before_any_pool(&mut self) {
         for _ in 0..self.random.between(1, 4) {
             let request = match self.random.below(4) {
-                0 => Request::LayOut(self.refused_pool()),
+                0 => self.refused_pool(),
                 1 => Request::Take(*self.random.pick(&[0, 1, 100])),
                 2 => Request::GiveBack(*self.random.pick(&[0, 4, 172])),
                 _ => Request::Figures,
@@ -116,33 +134,23 @@ impl Maker<'_> {
         }
     }
 
-    fn refused_pool(&mut self) -> u32 {
-        let any = self.random.word();
-        *self.random.pick(&[
-            0,
-            8,
-            168,
-            175,
-            177,
-            180,
-            65_535,
-            65_544,
-            1 << 31,
-            u32::MAX - 7,
-            any | 1,
-        ])
+    fn refused_pool(&mut self) -> Request {
+        let any = self.random.word() | 1;
+        let lengths = [0, 8, 168, 175, 177, 180, 65_535, 65_544, 1 << 31, u32::MAX - 7, any];
+        let n = *self.random.pick(&lengths);
+        Request::LayOut(*self.random.pick(&Layout::BOTH), n)
     }
 
     /// Another kind, or a body cut short; sometimes with more bytes behind it.
     fn unreadable_end(&mut self) {
         let short_body = self.random.chance(1, 2);
         if short_body {
-            self.tape.push(self.random.between(1, 3) as u8);
+            self.tape.push(*self.random.pick(&[1, 2, 3, 5]));
             let body = self.random.below(4);
             let bytes = self.random.bytes(body);
             self.tape.extend(bytes);
         } else {
-            let kind = *self.random.pick(&[0, 5, 6, 7, 49, 76, 128, 255]);
+            let kind = *self.random.pick(&[0, 6, 7, 49, 76, 77, 128, 255]);
             self.tape.push(kind);
             let more = self.random.below(12);
             let bytes = self.random.bytes(more);
@@ -161,8 +169,8 @@ impl Maker<'_> {
         };
         self.counts.observe(self.state.as_ref(), request, outcome.as_ref());
         match (request, outcome) {
-            (Request::LayOut(n), _) if allowed(n as usize) => {
-                self.state = Some(State::fresh(n as usize))
+            (Request::LayOut(layout, n), _) if allowed(n as usize) => {
+                self.state = Some(State::fresh(n as usize, layout))
             }
             (_, Some(Ok((after, _)))) => self.state = Some(after),
             (_, Some(Err(_))) => return false,
@@ -176,8 +184,11 @@ impl Maker<'_> {
         let random = &mut self.random;
         match random.below(200) {
             0..=9 => return Request::Figures,
-            10 => return Request::LayOut(self.refused_pool()),
-            11 if random.chance(1, 3) => return Request::LayOut(self.style.n as u32),
+            10 => return self.refused_pool(),
+            11 if random.chance(1, 3) => {
+                let layout = *random.pick(&Layout::BOTH);
+                return Request::LayOut(layout, self.style.n as u32);
+            }
             _ => {}
         }
         let odd = random.chance(self.style.odd, 100);
@@ -190,7 +201,7 @@ impl Maker<'_> {
             Request::GiveBack(odd_offset(state, random))
         } else {
             let any = *random.pick(&held) as u32 + 4;
-            let joining = if random.chance(1, 8) { joining_offset(state, random) } else { None };
+            let joining = if random.chance(1, 6) { joining_offset(state, random) } else { None };
             Request::GiveBack(joining.unwrap_or(any))
         }
     }

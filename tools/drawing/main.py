@@ -16,7 +16,8 @@ GREATEST_POOL = 65536
 GREATEST_TAPE = 32768
 NO_POOL, NOT_DONE = 1, 2
 STANDARD_OUTPUT = (None, "-", "/dev/stdout", "/dev/fd/1")
-LAY_OUT, TAKE, GIVE_BACK, FIGURES = 1, 2, 3, 4
+LAY_OUT, TAKE, GIVE_BACK, FIGURES, LAY_OUT_2 = 1, 2, 3, 4, 5
+LAYING_OUT = {LAY_OUT: b"L", LAY_OUT_2: b"M\x02\x00\x00\x00"}  # probe's commands
 
 
 class Stop(Exception):
@@ -72,14 +73,14 @@ def read_tape(name):
 
 
 def run_tape(name):
-    """The pool after the tape's last record. A refused L keeps the old pool; an accepted one leaves nothing of it that is drawn,
-    so the run starts at the last accepted L."""
+    """The pool after the tape's last record. A refused L or M keeps the old pool; an accepted one leaves nothing of it that is drawn,
+    so the run starts at the last accepted one."""
     records = read_tape(name)
-    laid = [i for i, (kind, n) in enumerate(records) if kind == LAY_OUT and n % 8 == 0 and 176 <= n <= GREATEST_POOL]
+    laid = [i for i, (kind, n) in enumerate(records) if kind in LAYING_OUT and n % 8 == 0 and 176 <= n <= GREATEST_POOL]
     if not laid:
         raise Stop(NO_POOL, f"{name} lays out no pool")
-    n = records[laid[-1]][1]
-    commands = [image_command(bytes(n)), b"L"]
+    kind, n = records[laid[-1]]
+    commands = [image_command(bytes(n)), LAYING_OUT[kind]]
     for kind, number in records[laid[-1] + 1:]:
         if kind in (TAKE, GIVE_BACK):
             commands.append((b"T" if kind == TAKE else b"G") + number.to_bytes(4, "little"))

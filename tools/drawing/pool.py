@@ -1,7 +1,7 @@
 """What a drawing reads of a pool's bytes: blocks in address order, links along the bins, and what does not fit.
 
 The verdict is probe's alone. This file follows heads and links only to place them, and names each thing it could not follow, so
-that a pool that probe refuses shows where. The layout is that of crates/paper/src/layout.rt.
+that a pool that probe refuses shows where. The bytes of both layouts are drawn in docs/FORMAT.md.
 """
 
 from collections import namedtuple
@@ -13,6 +13,8 @@ SMALL_NEXT, PREVIOUS, NEXT, LEVEL, CHAIN = 4, 4, 8, 12, 64
 SMALL_SIZES = range(8, 72, 8)
 LARGE = 72
 LEAST_REMAINDER = 8
+LEVELS = 13  # of the index in layout 2
+LAYOUTS = {1: 1, LEVELS: 2}  # the false block's level word tells the layout
 
 # kind: held, small, large (both free) or remainder
 Block = namedtuple("Block", "start size kind")
@@ -24,11 +26,22 @@ Fault = namedtuple("Fault", "at text breaks follows")
 Bin = namedtuple("Bin", "size starts")
 
 
+def height(size):
+    """How many levels a bin reaches in layout 2: 1, and the trailing zero bits of size / 8."""
+    return min(LEVELS, (size // 8 & -(size // 8)).bit_length())
+
+
+def index_word(level):
+    """Where the index word of a level, counted from 1, stands in a block."""
+    return CHAIN - 4 * (level - 1)
+
+
 class Pool:
     def __init__(self, data):
         self.data, self.n = data, len(data)
         self.blocks, self.gaps, self.links, self.faults = [], [], [], []
         self.small_bins, self.large_bins = [], []
+        self.layout = LAYOUTS.get(self.word(FALSE_BLOCK + LEVEL))  # None where it is neither
         self._walk()
         self.at = {block.start: block for block in self.blocks}
         self._fixed_words()
@@ -37,6 +50,7 @@ class Pool:
         for size in SMALL_SIZES:
             self._small_bin(size)
         self._chain()
+        self._index()
         self._left_out()
         self._free_word()
         # What breaks a walk comes first, what only follows from another fault last; the rest keeps its order.
@@ -150,10 +164,14 @@ class Pool:
     def _fixed_words(self):
         if self.word(FALSE_WORD, 8) != FALSE_BLOCK:
             self.fault(FALSE_WORD, f"reads {self.reads(FALSE_WORD, 8)}, and {FALSE_BLOCK} belongs there")
+        level = FALSE_BLOCK + LEVEL
+        if self.layout is None:
+            self.fault(level, f"the false block's level word reads {self.reads(level)}, and 1 (layout 1) or {LEVELS} (layout 2) belongs there")
+        # all of it but the level word and the index, whose upper words are zero in layout 1
+        index = FALSE_BLOCK + index_word(1 if self.layout == 1 else LEVELS)
         for at in range(FALSE_BLOCK, BLOCKS, 4):
-            wanted = 1 if at == FALSE_BLOCK + LEVEL else 0
-            if at != FALSE_BLOCK + CHAIN and self.word(at) != wanted:
-                self.fault(at, f"the false block reads {self.reads(at)}, and {wanted} belongs there")
+            if at != level and not index <= at <= FALSE_BLOCK + CHAIN and self.word(at) != 0:
+                self.fault(at, f"the false block reads {self.reads(at)}, and 0 belongs there")
 
     def _free_word(self):
         if self.gaps:
@@ -202,6 +220,7 @@ class Pool:
             self.small_bins.append(Bin(size, starts))
 
     def _chain(self):
+        self.whole_chain = False
         source, size = FALSE_BLOCK, 0
         while self.distance(source + CHAIN) != 0:
             target = source + self.distance(source + CHAIN)
@@ -209,10 +228,44 @@ class Pool:
                 return
             source, size = target, self.at[target].size
             self._large_bin(source, size)
+        self.whole_chain = True
+
+    def height(self, size):
+        """How many levels the bin of a size reaches in this pool."""
+        return height(size) if self.layout == 2 else 1
+
+    def towers(self):
+        """The false block and each bin's first block, along the chain: its start, and how many levels it reaches."""
+        return [(FALSE_BLOCK, LEVELS)] + [(starts[0], self.height(size)) for size, starts in self.large_bins]
+
+    def _index(self):
+        """The levels above the chain, in layout 2: each word leads to the next first block that reaches its level."""
+        towers = self.towers() if self.layout == 2 else []
+        self.wrong_words = set()  # (start, level) of the index words that lead elsewhere
+        for i, (start, reached) in enumerate(towers):
+            for level in range(2, reached + 1):
+                wanted = next((other for other, height_there in towers[i + 1:] if height_there >= level), None)
+                # behind a chain that breaks nobody knows what comes next
+                if wanted is not None or self.whole_chain:
+                    self._index_word(start, level, wanted)
+
+    def _index_word(self, start, level, wanted):
+        at = start + index_word(level)
+        distance = self.distance(at)
+        if distance == (0 if wanted is None else wanted - start):
+            return
+        belongs = "nowhere" if wanted is None else f"to {wanted}"
+        leads = f"leads to {start + distance}" if distance != 0 else "leads nowhere"
+        wrong = f"{leads}, and {belongs} is right"
+        self.fault(at, f"level {level} {wrong}")
+        self.wrong_words.add((start, level))
+        if distance != 0:
+            self.links.append(Link(at, start + distance, "chain", wrong))
 
     def _large_bin(self, first, size):
-        if self.word(first + LEVEL) != 1:
-            self.fault(first + LEVEL, f"the level word reads {self.word(first + LEVEL)}, and 1 belongs there")
+        wanted = self.height(size)
+        if self.layout is not None and self.word(first + LEVEL) != wanted:
+            self.fault(first + LEVEL, f"the level word reads {self.word(first + LEVEL)}, and {wanted} belongs there")
         self._previous(first, None)
         starts, source = [first], first
         while self.distance(source + NEXT) != 0:

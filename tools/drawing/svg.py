@@ -7,11 +7,10 @@ picture, byte for byte.
 from bisect import bisect_left
 from xml.sax.saxutils import escape
 
+from index import INDEX_STYLE, Index
 from pool import BLOCKS, CHAIN, END, FALSE_BLOCK, FALSE_WORD, FREE_WORD, SMALL_BINS, SMALL_SIZES, START
+from sheet import LEFT, MARGIN, ROOM, WIDTH, short, text, width_of
 
-WIDTH, MARGIN = 960, 32
-LEFT = 80  # where a row starts; its first offset stands to the left of it
-ROOM = WIDTH - LEFT - MARGIN - 8
 HEIGHT, PITCH = 38, 66  # of a row, and from one row to the next
 GAP = PITCH - HEIGHT  # no text stands there, nor right of the rows: links run in these
 LEAST_ROW, MOST_ROWS = 256, 32
@@ -68,23 +67,6 @@ HATCH = ('<pattern id="hatch" width="7" height="7" patternUnits="userSpaceOnUse"
          '<rect width="7" height="7" fill="#fbf1f1"/><path d="M0 0V7" stroke="#e3b4b4" stroke-width="2"/></pattern>')
 
 
-def short(value):
-    """A coordinate with one digit behind the point, none where it is whole."""
-    return f"{value:.1f}".removesuffix(".0")
-
-
-def width_of(words, size=12):
-    """About how wide a text is. Fonts differ, so it is taken rather too wide."""
-    narrow = sum(words.count(c) for c in "fijlt.,:' ")
-    return (len(words) - 0.45 * narrow) * size * 0.64
-
-
-def text(x, y, words, style="", anchor=""):
-    style = f' class="{style}"' if style else ""
-    anchor = f' text-anchor="{anchor}"' if anchor else ""
-    return f'<text x="{short(x)}" y="{short(y)}"{style}{anchor}>{escape(words)}</text>'
-
-
 class Rows:
     """Where an address stands: a row is a power of two, so that rows begin at round addresses. Where the header's words would be too
     narrow to be read, they also stand in a row of their own above the others, all as wide, and their links start there."""
@@ -135,6 +117,8 @@ class Picture:
         self.routed = 0  # links that went around
         self.taken = {}  # for the y of a row, from where to where words stand in it
         self.y = 0
+        if pool.layout == 2:
+            self.style += INDEX_STYLE
 
     # Above the rows
 
@@ -154,7 +138,7 @@ class Picture:
         self.y = 146
 
     def subtitle(self):
-        return f"{self.pool.n} bytes"
+        return f"{self.pool.n} bytes" + (", layout 2" if self.pool.layout == 2 else "")
 
     def faults(self):
         """The causes first, the very first one strong; what only follows from them is set apart."""
@@ -221,12 +205,15 @@ class Picture:
         follows = {}
         for chain in self.pool.small_bins + self.pool.large_bins:
             follows.update(zip(chain.starts, chain.starts[1:]))
+        heights = dict(self.pool.towers()) if self.pool.layout == 2 else {}
         for start, size, kind in self.pool.blocks:
             title = f"{start}: {TITLES[kind]}, {size} bytes"
             if kind == "remainder":
                 yield start, start + size, kind, title, [(str(start), f"remainder {size}"), (str(start), str(size))]
                 continue
             title += f", offset {start + 4}"
+            if start in heights:
+                title += f", first of its bin, height {heights[start]}"
             if start in follows:
                 title += f", next in its bin {follows[start]}"
             elif kind != "held" and start not in self.pool.binned:
@@ -417,6 +404,8 @@ class Picture:
         self.faults()
         self.rows()
         self.arrows()
+        if self.pool.layout == 2:
+            self.y = Index(self.pool, self.y).draw(self.below, self.links, self.words)
         self.bins()
         self.legend()
         return self.whole(title)

@@ -3,7 +3,7 @@
 import os
 import re
 
-from forms import KIT, write
+from forms import COUNTS, KIT, write
 from source import Sources
 from tree import Call, Named, Unknown, everything, inside, values
 from writing import KEPT, Names, Writer, broken, c_type
@@ -14,7 +14,7 @@ HEADING = '''\
    Made by tools/c99 from the checked MIR of the proved crates, with a function for each of theirs: do not edit it, edit the crates. What is
    proved is that program. That this file does the same is tested, not proved: docs/BOARD.md says how, and how to use the file.
 
-   Names say where a function comes from: bins_find is `find` of the crate bins. A slice of Rattle's is a pointer and a length, NAME and
+   Names say where a function comes from: bins_enter is `enter` of the crate bins. A slice of Rattle's is a pointer and a length, NAME and
    NAME_len; its usize is uint64_t, since the proofs are about 64 bits, whatever size_t is here. Every number is unsigned: a signed
    distance is its two's complement. A truth is 0 or 1. Bytes of the pool are read and written one by one, so neither its alignment nor
    the machine's byte order matters.
@@ -23,11 +23,18 @@ HEADING = '''\
 '''
 
 
+# gcc takes a value that has set one member of a union, and not the widest, for one that was not set (seen with 12.2 at -Os)
+QUIET = ["// One member of a union is set, and maybe not the widest: gcc warns of that as of a value that was not set.",
+         "#if defined(__GNUC__) && !defined(__clang__)", "#pragma GCC diagnostic push",
+         '#pragma GCC diagnostic ignored "-Wmaybe-uninitialized"', "#endif", ""]
+LOUD = ["#if defined(__GNUC__) && !defined(__clang__)", "#pragma GCC diagnostic pop", "#endif", ""]
+
+
 class File:
     def __init__(self, root, crates, program, fault=None):
         self.root, self.crates, self.program, self.sources = root, crates, program, Sources(root, crates.names)
-        self.fault, self.leading_zeros = fault, False
-        self.used_types, self.makers, self.used_constants = [], {}, {}
+        self.fault = fault
+        self.used_types, self.makers, self.used_constants, self.used_counts = [], {}, {}, set()
         self.headers = self.read_headers()
 
     # ---- what is there
@@ -160,23 +167,28 @@ class File:
 
     def take_used(self):
         """What the functions written last use and those before did not."""
-        done = getattr(self, "done", (set(), {}, set()))
+        done = getattr(self, "done", (set(), {}, set(), set()))
         types = [t for t in self.used_types if t not in done[0]]
         makers = {p: v - done[1].get(p, set()) for p, v in self.makers.items()}
         constants = {n: v for n, v in self.used_constants.items() if n not in done[2]}
-        zeros, self.leading_zeros = self.leading_zeros, False
-        self.done = (set(self.used_types), {p: set(v) for p, v in self.makers.items()}, set(self.used_constants))
-        return types, makers, constants, zeros
+        counts = [op for op in COUNTS if op in self.used_counts and op not in done[3]]
+        self.done = (set(self.used_types), {p: set(v) for p, v in self.makers.items()}, set(self.used_constants), set(self.used_counts))
+        return types, makers, constants, counts
 
     def declared(self, used):
-        types, makers, constants, zeros = used
+        types, makers, constants, counts = used
         lines = [f"#define {name} {value}u" for name, value in sorted(constants.items(), key=self.place)] + [""] if constants else []
         for path in types:
             lines += self.type(path) + [""]
+        made, unions = [], False
         for path in self.used_types:
             for variant in sorted(makers.get(path, set()), key=lambda v: -1 if v is None else v):
-                lines += self.maker(path, variant) + [""]
-        return lines + (self.form("LeadingZeros, its function").split("\n") + [""] if zeros else [])
+                made += self.maker(path, variant) + [""]
+                unions = unions or variant is not None
+        lines += QUIET + made + LOUD if unions else made
+        for op in counts:
+            lines += self.form(f"{op}, its function").split("\n") + [""]
+        return lines
 
     def place(self, constant):
         """Constants stand in the order of the crates, and there by their numbers."""

@@ -185,6 +185,48 @@ def leading_zeros_function():
     return LEADING_ZEROS
 
 
+@form("TrailingZeros")
+def trailing_zeros(a):
+    return Text.of(f"trailing_zeros({a})", POSTFIX)
+
+
+# Nor this one. Each step asks whether the lower half of what is left is 0.
+TRAILING_ZEROS = """// How many zero bits stand below the lowest bit of x that is set; 32 where none is.
+static inline uint32_t trailing_zeros(uint32_t x)
+{
+    uint32_t zeros = 0u;
+    if ((x & 0xffffu) == 0u) {
+        zeros += 16u;
+        x >>= 16;
+    }
+    if ((x & 0xffu) == 0u) {
+        zeros += 8u;
+        x >>= 8;
+    }
+    if ((x & 0xfu) == 0u) {
+        zeros += 4u;
+        x >>= 4;
+    }
+    if ((x & 0x3u) == 0u) {
+        zeros += 2u;
+        x >>= 2;
+    }
+    if ((x & 0x1u) != 0u) {
+        return zeros;
+    }
+    return x != 0u ? zeros + 1u : zeros + 2u;
+}"""
+
+
+@form("TrailingZeros, its function")
+def trailing_zeros_function():
+    return TRAILING_ZEROS
+
+
+# The operations that C has not, and that a function of the file stands for.
+COUNTS = ("LeadingZeros", "TrailingZeros")
+
+
 @form("Cast Unsigned Unsigned")
 def cast(bits, a):
     return Text.of(f"({WIDTH[bits]}){a.at(UNARY)}", UNARY)

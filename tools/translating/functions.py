@@ -8,17 +8,20 @@ Three files come of it: a C program that includes pool.c and makes the calls, wh
 import random
 import struct
 
-from machine import Block, Machine
+from machine import Block, Machine, TooLong
 from tree import BOOL, Int, Named, Ref, Slice, UNIT
 from writing import c_type, pointer_type
 
 CASES = 100  # of each function with arguments by chance, five times as many where they are all numbers,
 SEEN = 60  # at most as it was called,
 RUNS = 1200  # while so many exported calls ran
+LEVELS = {"level", "to", "top", "height", "h", "k"}  # numbers of these names are mostly small: a level, or how many words
+TURNS = 1500  # that a call's loops may take; a case that takes more is left out
 TRIES = 400  # by chance, where a way of the function was never gone
-EDGES = [0, 1, 2, 3, 4, 7, 8, 9, 12, 16, 24, 31, 32, 33, 34, 35, 52, 53, 54, 63, 64, 65, 68, 71, 72, 73, 96, 168, 172, 255, 256, 289, 290, 291,
-         65535, 65536, 65537, 2 ** 31 - 1, 2 ** 31, 2 ** 31 + 1, 2 ** 32 - 72, 2 ** 32 - 8, 2 ** 32 - 4, 2 ** 32 - 1]
+EDGES = [0, 1, 2, 3, 4, 7, 8, 9, 12, 13, 14, 16, 24, 31, 32, 33, 34, 35, 52, 53, 54, 63, 64, 65, 68, 71, 72, 73, 80, 96, 128, 168, 172, 255, 256, 289,
+         290, 291, 32768, 65535, 65536, 65537, 2 ** 31 - 1, 2 ** 31, 2 ** 31 + 1, 2 ** 32 - 72, 2 ** 32 - 8, 2 ** 32 - 4, 2 ** 32 - 1]
 WIDE = [2 ** 32, 2 ** 32 + 4, 2 ** 33, 2 ** 63, 2 ** 64 - 4, 2 ** 64 - 1]
+LEVEL_WORD = 108  # of the false block
 PREAMBLE = """// Every function of pool.c by itself: tools/translating/functions.py writes it.
 #include "pool.c"
 #include <stdio.h>
@@ -75,30 +78,28 @@ class Functions:
     # ---- pools
 
     def make_pools(self):
-        """Laid out, then some takes and give-backs, by the calls that do not inspect; and each damaged in a few words."""
+        """Laid out with either layout, then some takes and give-backs, by the calls that do not inspect; and each damaged in a few words."""
         pools = []
-        for n in [176, 184, 192, 256, 320, 320, 384, 512, 512, 512, 1024]:
-            block = Block(8, [self.random.randrange(256) for _ in range(n)])
-            lent, held = ((block, 0), n), []
-            self.machine.call("serving::laying_out::lay_out", [lent, n])
+        lengths = [176, 184, 192, 256, 320, 320, 384, 512, 512, 512, 1024]
+        for n, layout in [(n, 1) for n in lengths] + [(n, 2) for n in lengths[3:]]:
+            block, lent, held = *self.laid_out(n, layout), []
             for step in range(40):
                 if held and self.random.random() < 0.4:
                     self.machine.call("serving::give_back", [lent, held.pop(self.random.randrange(len(held)))])
                 else:
-                    tag, value = self.machine.call("grant::take", [lent, self.random.choice([4, 5, 12, 20, 60, 68, 68, 76, 100])])
+                    tag, value = self.machine.call("grant::take", [lent, self.random.choice([4, 5, 12, 20, 60, 68, 68, 76, 76, 92, 100])])
                     held += [value] if tag == 0 else []
                     if tag == 0:
                         block.numbers[value] = self.random.randrange(5)  # perhaps the kind of a record
                 if step % 8 == 7:
                     pools.append(list(block.numbers))
-        # three bins on the chain
-        block = Block(8, [self.random.randrange(256) for _ in range(768)])
-        lent = ((block, 0), 768)
-        self.machine.call("serving::laying_out::lay_out", [lent, 768])
-        taken = [self.machine.call("grant::take", [lent, size])[1] for size in (68, 68, 76, 68, 100, 68)]
-        for offset in taken[::2]:
-            self.machine.call("serving::give_back", [lent, offset])
-        pools += [list(block.numbers)] * 8
+        # three bins on the chain; and four in the index, which reach one, two, three and five levels
+        for layout, sizes in [(1, (68, 68, 76, 68, 100, 68)), (2, (68, 68, 76, 68, 92, 68, 124, 68))]:
+            block, lent = self.laid_out(1024, layout)
+            taken = [self.machine.call("grant::take", [lent, size])[1] for size in sizes]
+            for offset in taken[::2]:
+                self.machine.call("serving::give_back", [lent, offset])
+            pools += [list(block.numbers)] * 8
         # and some cut off, with no more than the header and the false block, or less
         short = [pool[:length] for pool, length in zip(pools, [168, 168, 168, 168, 168, 168, 167, 164, 169, 172, 8, 4])]
         damaged = []
@@ -109,6 +110,14 @@ class Functions:
                 pool[at:at + 4] = struct.pack("<I", self.random.choice([self.number_in(pool), self.random.getrandbits(32)]))
             damaged.append(pool)
         return pools + damaged + short + [ring for ring in map(self.ring, pools) if ring]
+
+    def laid_out(self, n, layout):
+        """A fresh pool of n bytes; the level word alone tells the layouts apart while there is no bin."""
+        block = Block(8, [self.random.randrange(256) for _ in range(n)])
+        lent, name = ((block, 0), n), "laying::lay_out"
+        self.machine.call(name, [lent, n, 1][:self.machine.raw[name]["params"]])
+        block.numbers[LEVEL_WORD] = {1: 1, 2: 13}[layout]
+        return block, lent
 
     def ring(self, pool):
         """The pool with the last bin of its chain linked back to the first, if it has two."""
@@ -146,7 +155,7 @@ class Functions:
 
     # ---- arguments
 
-    def arguments(self, params, pool):
+    def arguments(self, params, pool, names=()):
         """Each with the bytes that the C program reads for it. The first list of bytes is mostly the pool, and a later one a record's body; beside a bank a
         number is mostly a piston's; and sometimes two numbers are the starts of two blocks, the lower one first, as a walk has them."""
         made, lists, walk = [], 0, []
@@ -155,8 +164,10 @@ class Functions:
         elif self.random.random() < 0.3:
             starts = [at for at, _ in self.blocks(pool)]
             walk = sorted(self.random.sample(starts, 2)) if len(starts) > 1 else []
-        for ty in params:
-            if isinstance(ty, Slice) and ty.of == Int(8):
+        for at, ty in enumerate(params):
+            if ty == Int(32) and at < len(names) and names[at] in LEVELS:
+                made.append(self.level())
+            elif isinstance(ty, Slice) and ty.of == Int(8):
                 lists += 1
                 made.append(self.lent(8, pool if lists == 1 else self.few()))
             elif ty == Int(32) and any(isinstance(other, Ref) for other in params) and self.random.random() < 0.7:
@@ -168,6 +179,10 @@ class Functions:
             else:
                 made.append(self.make(ty, pool))
         return made
+
+    def level(self):
+        number = self.random.choice([0, 1, 1, 2, 3, 5, 12, 13, 13, 14, 17, 18, self.random.choice(EDGES) % 2 ** 32])
+        return number, packed(64, [number])
 
     def few(self):
         return [self.random.choice([0, 1, 2, 3, 255, self.random.randrange(256)])
@@ -183,7 +198,7 @@ class Functions:
         if isinstance(ty, Slice):
             return self.lent(ty.of.bits, self.numbers(ty.of.bits, pool))
         if isinstance(ty, Ref):
-            numbers = self.bank(pool, ty.to.length)
+            numbers = self.bank(pool) if ty.to.length == 32 else self.waits(pool, ty.to.length)
             return (Block(ty.to.of.bits, list(numbers)), 0), packed(ty.to.of.bits, numbers)
         if ty == BOOL:
             number = choose([0, 1])
@@ -199,17 +214,27 @@ class Functions:
             variants = self.file.program.variants(ty.name)
             variant = self.random.randrange(len(variants))
             fields = variants[variant]
-        made = [self.make(field, pool) for field in fields]
+        names = self.file.members(ty.name) if variant is None else ()
+        made = [self.level() if at < len(names) and names[at] in LEVELS else self.make(field, pool) for at, field in enumerate(fields)]
         tag = [] if variant is None else [variant]
         return (*tag, *(value for value, _ in made)), packed(64, tag) + b"".join(given for _, given in made)
 
-    def bank(self, pool, length):
+    def bank(self, pool):
         """Mostly a right one: empty, or with some blocks that are held; else with numbers by chance."""
         held = [at + 4 for at, word in self.blocks(pool) if word & 1]
         self.random.shuffle(held)
-        numbers = [0] * length
+        numbers = [0] * 32
         for offset in held[:self.random.choice([0, 1, 3, 8])]:
-            numbers[self.random.choice([0, 1, 2, 3, 4, 31, self.random.randrange(length)])] = offset
+            numbers[self.random.choice([0, 1, 2, 3, 4, 31, self.random.randrange(32)])] = offset
+        if self.random.random() < 0.3:
+            numbers[self.random.randrange(32)] = self.number_in(pool)
+        return numbers
+
+    def waits(self, pool, length):
+        """What the levels of an index await: one block at each of the lowest, as it may be, and then none; else numbers by chance."""
+        starts = [0, 96, *(at for at, word in self.blocks(pool) if not word & 1)]
+        lowest = self.random.randrange(length + 1)
+        numbers = [self.random.choice(starts)] * lowest + [self.random.choice([0, 0, 96])] * (length - lowest)
         if self.random.random() < 0.3:
             numbers[self.random.randrange(length)] = self.number_in(pool)
         return numbers
@@ -267,21 +292,28 @@ class Functions:
         return value, packed(64, self.flat(ty, value))
 
     def case(self, number, path, made):
+        """What the C program reads for a call, and what it must print; nothing where the call takes too long."""
         result, params = self.file.program.signature(path)
-        answer = self.machine.call(path, [value for value, _ in made])
+        self.machine.turns = TURNS
+        try:
+            answer = self.machine.call(path, [value for value, _ in made])
+        except TooLong:
+            return []
+        finally:
+            self.machine.turns = None
         words = [self.file.names.functions[path], *(f"{n:x}" for n in self.flat(result, answer))]
         for ty, (value, _) in zip(params, made):
             if isinstance(ty, (Slice, Ref)) and ty.mutable:
                 block = value[0][0] if isinstance(ty, Slice) else value[0]
                 words += ["|", *(f"{n:x}" for n in block.numbers)]
-        return packed(64, [number]) + b"".join(given for _, given in made), " ".join(words)
+        return [(packed(64, [number]) + b"".join(given for _, given in made), " ".join(words))]
 
     def given(self, path):
         """The arguments of a function's calls: as it was called, by chance, and where it takes numbers alone, each of them at each edge."""
-        params = self.file.program.signature(path)[1]
+        params, names = self.file.program.signature(path)[1], self.file.source(path).params
         lists = any(isinstance(ty, Slice) for ty in params)
         for _ in range(CASES if lists else 5 * CASES):
-            yield self.arguments(params, self.random.choice(self.pools))
+            yield self.arguments(params, self.random.choice(self.pools), names)
         for at, ty in enumerate(params if not lists else []):
             for edge in EDGES + WIDE if isinstance(ty, Int) else []:
                 made = self.arguments(params, self.random.choice(self.pools))
@@ -294,9 +326,9 @@ class Functions:
         self.machine.taken.clear()
         for number, path in enumerate(self.paths):
             for made in [*seen[path], *self.given(path)]:
-                given, line = self.case(number, path, made)
-                read.append(given)
-                lines.append(line)
+                for given, line in self.case(number, path, made):
+                    read.append(given)
+                    lines.append(line)
             for given, line in self.search(number, path, self.file.program.signature(path)[1]):
                 read.append(given)
                 lines.append(line)
@@ -309,9 +341,9 @@ class Functions:
             left = ways - self.machine.taken
             if not left:
                 return
-            case = self.case(number, path, self.arguments(params, self.random.choice(self.pools)))
+            case = self.case(number, path, self.arguments(params, self.random.choice(self.pools), self.file.source(path).params))
             if left & self.machine.taken:
-                yield case
+                yield from case
 
     def ways(self):
         """How many ways on from a test or a switch the functions have, and of which functions some were never gone."""

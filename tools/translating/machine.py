@@ -36,9 +36,13 @@ def in_range(bits, sign, n):
 KIT = {"std::num::wrapping_add_u32": lambda a, b: (a + b) % 2 ** 32, "std::num::wrapping_sub_u32": lambda a, b: (a - b) % 2 ** 32}
 
 
+class TooLong(Exception):
+    """A call went round its loops more often than it may: one that counts down from a number by chance may do so four thousand million times."""
+
+
 class Machine:
     def __init__(self, files):
-        self.raw, self.bodies, self.watch, self.taken = {}, {}, None, set()
+        self.raw, self.bodies, self.watch, self.taken, self.turns = {}, {}, None, set(), None
         for file in files:
             with open(file) as text:
                 self.raw.update(json.load(text))
@@ -130,6 +134,10 @@ class Machine:
                 return out if isinstance(out, str) else "next" if out == 0 else out - 1
             elif key == "Loop":
                 while True:
+                    if self.turns is not None:
+                        self.turns -= 1
+                        if self.turns < 0:
+                            raise TooLong
                     out = self.run(body[1], frame, types)
                     if out == "return":
                         return out
@@ -249,6 +257,8 @@ class Machine:
             return 1 - a if bits is None else (1 << bits) - 1 - a
         if op == "LeadingZeros":
             return bits - a.bit_length()
+        if op == "TrailingZeros":
+            return bits if a == 0 else next(k for k in range(bits) if a >> k & 1)
         source, target, width = op["Cast"]
         return in_range(width, target, signed(bits, a) if source == "Signed" else a)
 

@@ -12,11 +12,11 @@ A form that is not named here stops the translation: nothing is guessed. What ea
 
 import json
 
-from forms import KIT
+from forms import COUNTS, KIT
 from tree import (Array, BOOL, Break, Call, Cases, Cast, Continue, Do, Field, Fn, Held, If, Int, Len, Load, Loop, Make, Named, Num, Offset,
                   Op1, Op2, PTR, Part, Ref, Repeat, Return, Set, SetField, Slice, Start, Store, Tag, Truth, UNIT, Unknown, Var)
 
-OPS1 = {"Not", "LeadingZeros"}
+OPS1 = {"Not", *COUNTS}
 OPS2 = {"Eq", "Ne", "And", "Or", "Shl"}
 SIGNED_OPS2 = {("Add", "Unsigned"), ("Sub", "Unsigned"), ("Sub", "Signed"), ("Mul", "Unsigned"), ("Div", "Unsigned"),
                ("Rem", "Unsigned"), ("Shr", "Unsigned"), ("Lt", "Unsigned"), ("Lt", "Signed"), ("Le", "Unsigned")}
@@ -298,9 +298,9 @@ class Reader:
                 raise Unknown(f"the cast {cast}, which changes the width and the sign")
             return Cast(Int(cast[2]), cast, value)
         key, _ = only(op, *OPS1)
-        if key == "LeadingZeros":
+        if key in COUNTS:
             if value.ty != Int(32):
-                raise Unknown(f"the leading zeros of {value.ty}")
+                raise Unknown(f"{key} of {value.ty}")
             return Op1(Int(32), key, value)
         if value.ty not in (BOOL, Int(32)):
             raise Unknown(f"'Not' of {value.ty}")

@@ -2,7 +2,7 @@
 what the kit's logic says (its file Mir/Val.antt), computed here. Some of it no pool can show: a test whose two branches do the same, say.
 Only operands for which an operation is defined are asked about; the proofs see to it that there are no others."""
 
-from forms import Text, WIDTH
+from forms import COUNTS, Text, WIDTH
 
 
 def edges(bits):
@@ -14,6 +14,10 @@ def edges(bits):
 
 def signed(bits, a):
     return a - 2 ** bits if a >> (bits - 1) else a
+
+
+def low_zeros(bits, a):
+    return bits if a % 2 ** bits == 0 else 0 if a % 2 else 1 + low_zeros(bits - 1, a // 2)
 
 
 def fits(bits, value):
@@ -94,6 +98,7 @@ class Operations:
         self.ask("Not", 32, [("a", 32)], self.form("Not", 32, a), [(x, 2 ** 32 - 1 - x) for x in edges(32)])
         self.ask("Not of a truth", 8, [("a", 8)], self.form("Not of a truth", a), [(0, 1), (1, 0)])
         self.ask("LeadingZeros", 32, [("a", 32)], self.form("LeadingZeros", a), [(x, 32 - x.bit_length()) for x in self.every_bit()])
+        self.ask("TrailingZeros", 32, [("a", 32)], self.form("TrailingZeros", a), [(x, low_zeros(32, x)) for x in self.every_low_bit()])
         self.ask("true", 8, [("a", 8)], Text.of(f"a == {self.form('true')}", 9), [(1, 1), (0, 0)])
         self.ask("false", 8, [("a", 8)], Text.of(f"a == {self.form('false')}", 9), [(0, 1), (1, 0)])
         return "\n".join([
@@ -102,7 +107,7 @@ class Operations:
             "static unsigned passed, failed;", "",
             "static void expect(const char *what, int holds, unsigned i)\n{\n    if (holds) {\n        passed++;\n    } else {\n"
             "        failed++;\n        printf(\"  operations: %s, case %u\\n\", what, i);\n    }\n}\n",
-            self.form("LeadingZeros, its function") + "\n", *self.functions,
+            *(self.form(f"{op}, its function") + "\n" for op in COUNTS), *self.functions,
             "int main(void)\n{", *self.calls,
             "    printf(\"%u passed, %u failed\\n\", passed, failed);\n    return failed != 0;\n}\n"])
 
@@ -113,3 +118,7 @@ class Operations:
     @staticmethod
     def every_bit():
         return sorted({0} | {n for k in range(32) for n in (2 ** k, 2 ** k + 1, 2 ** (k + 1) - 1) if n < 2 ** 32})
+
+    @staticmethod
+    def every_low_bit():
+        return sorted({0} | {n for k in range(32) for n in (2 ** k, 3 * 2 ** k, 2 ** 31 + 2 ** k, 2 ** 32 - 2 ** k) if n < 2 ** 32})

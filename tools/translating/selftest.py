@@ -7,6 +7,7 @@ import sys
 
 from crates import Crates
 from file import File
+from forms import COUNTS
 from mir import Program
 from shape import Shaper
 from tree import Call, Do, Fn, Int, Load, Num, Offset, Op2, Ref, Return, Set, Slice, Start, Store, UNIT, Unknown, Var
@@ -85,7 +86,7 @@ def operation(old, new):
     return deep(has_op(old), lambda form: form.__setitem__(0, new))
 
 
-FIND = "bins::chain::find_from"
+FIND = "bins::chain::along"
 stops("a word of the body", FIND, word("Skip", "Trap"), "'Trap'")
 stops("an exit of two loops", FIND, word({"Exit": 1}, {"Exit": 2}), "an exit of 2")
 stops("a loop without a block", FIND, word("Block", []), "a loop that is not the whole of a block")
@@ -95,6 +96,9 @@ stops("a signed sum", "header::zeros", operation({"Add": "Unsigned"}, {"Add": "S
 stops("an operation of two", "heads::head::together", operation("Or", "Xor"), "'Xor'")
 stops("an operation of one", "classes::class_of", deep(lambda f: isinstance(f, list) and f[:1] == ["LeadingZeros"],
                                                      lambda f: f.__setitem__(0, "CountOnes")), "'CountOnes'")
+for count in COUNTS:
+    stops(f"{count} of a truth", "classes::class_of", deep(lambda f: isinstance(f, list) and f[:1] == ["LeadingZeros"],
+                                                         lambda f: f.__setitem__(slice(0, 2), [count, "True"])), f"{count} of ")
 stops("a product that is no shift", "classes::class_of", deep(lambda f: f == {"Int": {"width": 32, "value": 4}},
                                                             lambda f: f["Int"].update(value=5)), "Mul Unsigned")
 stops("a cast to 16 bits", "words::put32", deep(key("Cast"), lambda f: f.update(Cast=["Unsigned", "Unsigned", 16])), "the cast")
@@ -125,6 +129,16 @@ stops("a tag that no variant has", "bank::kinds::kind_of",
 stops("a struct with too few fields", FIND, deep(key("Aggregate"), lambda f: f["Aggregate"].pop()), "other fields than its own")
 stops("words that are left over", FIND, lambda raw: raw["body"].append("Skip"), "words are left")
 stops("an end without a result", "bins::chain::linked", word("Return", "Skip"), "without a result")
+
+# ---- what C has not
+
+program = Program(FILES)
+other = program.raw["classes::class_of"] = copy.deepcopy(program.raw["classes::class_of"])
+deep(lambda f: isinstance(f, list) and f[:1] == ["LeadingZeros"], lambda f: f.__setitem__(0, "TrailingZeros"))(other)
+texts = {"leading_zeros": File(root, CRATES, PROGRAM).write(), "trailing_zeros": File(root, CRATES, program).write()}
+for name, text in texts.items():
+    expect(text.count(f"static inline uint32_t {name}(uint32_t x)\n") == 1, f"{name} has its function once")
+    expect(f"- {name}(less_one)" in text, f"{name} is called")
 
 # ---- what is moved
 

@@ -2,7 +2,7 @@
 
 import re
 
-from forms import KIT, Text, UNARY, WIDTH, indented
+from forms import COUNTS, KIT, Text, UNARY, WIDTH, indented
 from shape import Shaper, ends, locals_in
 from tree import (Array, BOOL, Call, Cases, Cast, Continue, Do, Field, Held, If, Int, Len, Load, Loop, Make, Named, Num, Offset,
                   Op1, Op2, Part, Ref, Return, Set, SetField, Slice, Start, Store, Truth, UNIT, Unknown, Unless, Var, While, bodies,
@@ -313,9 +313,9 @@ class Writer:
         if isinstance(value, Load):
             return self.load(value)
         if isinstance(value, Op1):
-            if value.op == "LeadingZeros":
-                self.file.leading_zeros = True
-                return self.form("LeadingZeros", self.value(value.value))
+            if value.op in COUNTS:
+                self.file.used_counts.add(value.op)
+                return self.form(value.op, self.value(value.value))
             if value.ty == BOOL:
                 return self.form("Not of a truth", self.value(value.value))
             return self.form("Not", value.ty.bits, self.value(value.value))

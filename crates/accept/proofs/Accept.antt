@@ -1,14 +1,15 @@
 -- The inspection accepts every sound pool: what the pool reads passes each test.
 use mathlib.Core.Bool.{false, true}
 use mathlib.Core.List.{List, [], _∷_}
-use mathlib.Core.Logic.{_≢_, _⊎_, inl, inr}
+use mathlib.Core.Logic.{_≢_, _⊎_, inl, inr, ⊎-elim}
 use mathlib.Core.Option.{some}
 use mathlib.Core.Path.{_∙_, _≡_, ap, refl, subst, sym}
 use Prim.Native.Nat.{_%_, _*_, _+_, _-_, _<_, _≤_, suc, zero, ℕ}
 use native.Mathlib.Omega.{arith}
-use lib.ListN.{length}
+use lib.ListN.{getD-replicate, length, length-replicate, replicate}
 use Rattle.heads.proofs.HeadLaws.{free-head}
 use Rattle.heads.specs.Links.{followed, linkWord}
+use Rattle.accept.proofs.Awaited.{Link, awaited, indexed-inv, indexed-yes}
 use Rattle.accept.proofs.Chains.{LinkedL, LinkedS}
 use Rattle.guards.proofs.Guards.{guard-yes}
 use Rattle.accept.proofs.MarkLists.{linked-from, listMarks, next-in, prev-in}
@@ -19,20 +20,22 @@ use Rattle.header.specs.Header.{E, R, cleared, false-tests, rest-tests}
 use Rattle.runs.specs.Runs.{if-seen, Scanned, scan, seen, stray}
 use Rattle.heads.specs.Heads.{sizeAt}
 use Rattle.accept.specs.Inspect.{inspect, scanned, size-tests}
-use Rattle.lists.specs.Lists.{Left, chain, if-left, large-tests, lists, nextBin, nextLarge, nextSmall, small-tests}
+use Rattle.levels.specs.Levels.{topOf, wordOf}
+use Rattle.lists.specs.Index.{Awaited, falseIndexed, if-awaiting, indexed, nextOn}
+use Rattle.lists.specs.Lists.{Left, chain, if-left, large-tests, lists, nextLarge, nextSmall, small-tests}
 use Rattle.guards.specs.Tests.{guard, same}
 use Rattle.paper.proofs.reads.Allowed.{allowed-yes}
 use Rattle.paper.proofs.bins.Bins.{count-nil, first-count}
 use Rattle.paper.proofs.bins.Distances.{followed-linkWord, linkWord-small}
-use Rattle.paper.proofs.sheet.Fields.{at-back, at-foot, at-level, at-word, false-word, height-one}
-use Rattle.paper.proofs.bins.Listed.{freeAt-append, loose}
+use Rattle.paper.proofs.sheet.Fields.{at-back, at-foot, at-level, height-le}
+use Rattle.paper.proofs.bins.Listed.{Loose, freeAt-append, loose}
+use Rattle.paper.proofs.reads.LooseReads.{above-some, false-reads, index-reads, reach-in}
 use Rattle.paper.proofs.reads.Readings.{end-big, head-reads, header-reads, low-reads, next-reads, no-zero, reads, rest-reads, small-reads, start-of, top-reads}
-use Rattle.paper.proofs.bins.Seek.{seek-cong, seek-spec}
 use Rattle.paper.proofs.runs.Walk.{In, flagPast, freeSum-append, freeSum-le, in-aligned, in-flag, in-high, in-left, in-mid, in-sized, sized-eight, sized-parts, total-append}
-use Rattle.paper.specs.Bins.{count, first, seek}
+use Rattle.paper.specs.Bins.{count, first}
 use Rattle.paper.specs.Blocks.{Block, Kind, State, block, blocks, end, free, freeSum, held, remainder, total}
-use Rattle.paper.specs.Governed.{above, headWord, headerWord, height, index, link, reach, sheet}
-use Rattle.paper.specs.Layout.{blocks-at, chain-at, false-block, false-word-at, free-word-at, level-at, next-at, previous-at}
+use Rattle.paper.specs.Governed.{above, headWord, headerWord, height, index, link, sheet}
+use Rattle.paper.specs.Layout.{blocks-at, chain-at, false-block, false-word-at, free-word-at, level-at, levels, next-at, previous-at}
 use Rattle.paper.specs.Sheet.{Holds}
 use Rattle.paper.specs.Sound.{High, Low, Sized, WellFormed, freeAt}
 use Rattle.words.specs.Choice.{by<, by=, if<, if<-no, if<-yes, if=, if=-no, if=-yes}
@@ -218,103 +221,119 @@ module _ (bs : List ℕ) (s : State) (W : WellFormed s) (l : length bs ≡ end s
   unfolding headerWord if=
   false-is = header-reads bs s W l h 1 (omega arith) (omega arith)
 
-  -- ---- layout 1
-  module _ (t1 : s .top ≡ 1) where
-    abbrev next-bin : ℕ → ℕ
-    next-bin y = seek (λ (u : ℕ). first (s .bins u)) n (suc y)
+  -- ---- the index
+  L : Loose s
+  L = loose s W
 
-    above-is : (y : ℕ) → above (s .top) (end s) (s .bins) 1 y ≡ next-bin y
-    unfolding above reach
-    above-is y = seek-cong _ _ n (suc y) (λ u k. if<-no (height (s .top) u) 1 _ _ (omega (arith, height-one (s .top) u t1)))
+  abbrev t : ℕ
+  t = s .top
 
-    -- what is found past y is a start past y, or 0
-    bound : (y : ℕ) → (next-bin y ≤ 65536) × ((q : ℕ) → q ≢ 0 → (q < blocks-at) ⊎ (sizeAt bs q ≤ y) → next-bin y ≢ q)
-    bound y =
-        by= (next-bin y) 0 (λ e. (omega arith, λ q nz c k. nz (sym k ∙ e)))
-        (λ ne. let r = seek-spec (λ (u : ℕ). first (s .bins u)) n (suc y) ne in
-        let o = first-count (s .bins (r .0)) (next-bin y) (r .2) ne in
-        let st = start-of bs s W l h (r .0) (next-bin y) o in
-        (omega arith, λ q nz c k. apart q (r .0) (r .1) (subst (λ (v : ℕ). 1 ≤ count v (s .bins (r .0))) k o) c))
-      where
-        apart : (q z : ℕ) → y < z → 1 ≤ count q (s .bins z) → (q < blocks-at) ⊎ (sizeAt bs q ≤ y) → ⊥
-        apart q z yz o (inl c) = omega (arith, start-of bs s W l h z q o .0)
-        apart q z yz o (inr c) = omega (arith, sizes z q o .0)
+  abbrev next-bin : ℕ → ℕ → ℕ
+  next-bin = above t n (s .bins)
 
-    tops : (z : ℕ) → 64 < z → first (s .bins z) ≢ 0 → (wordAt 4 bs (first (s .bins z) + level-at) ≡ 1)
-        × (wordAt 4 bs (first (s .bins z) + chain-at) ≡ linkWord (first (s .bins z)) (next-bin z)) × (nextBin bs (first (s .bins z)) ≡ next-bin z)
-    tops z z64 ne =
-        let q : ℕ = first (s .bins z) in
-        let o = first-count (s .bins z) q refl ne in
-        let i = sizes z q o in
-        let f = loose s W .found z q o in
-        let st = start-of bs s W l h z q o in
-        let z72 : 72 ≤ z = omega arith in
-        let a = height-one (s .top) z t1 in
-        let w : wordAt 4 bs (q + chain-at) ≡ linkWord q (next-bin z) =
-        reads bs s W l h (q + chain-at) (linkWord q (next-bin z)) (omega arith) (omega arith) (linkWord-small q (next-bin z))
-        (at-word s q z (f .0) (f .1) z72 refl 1 (omega arith) (omega arith) (omega (arith, t1)) ∙ ap (λ (v : ℕ). some (linkWord q v)) (above-is z)) in (
-          reads bs s W l h (q + level-at) 1 (omega arith) (omega arith) (omega arith) (at-level s q z (f .0) (f .1) z72 refl ∙ ap some a),
-          w,
-          ap (followed q) w ∙ followed-linkWord q (next-bin z) (omega arith) (bound z .0) (bound z .1 q ne (inr (omega arith))),
-        )
+  -- the level word tells the layout
+  is-top : topOf bs ≡ t
+  unfolding topOf
+  is-top = ⊎-elim
+      (λ e. if=-no (wordAt 4 bs 108) 13 _ _ (omega (arith, top-reads bs s W l h)) ∙ sym e)
+      (λ e. if=-yes (wordAt 4 bs 108) 13 _ _ (top-reads bs s W l h ∙ e) ∙ sym e) (W .layout)
 
-    false-zero : (o : ℕ) → o < 72 → o % 4 ≡ 0 → o ≢ level-at → o ≢ chain-at → wordAt 4 bs (false-block + o) ≡ 0
-    unfolding index
-    false-zero o b al n12 n64 =
-        reads bs s W l h (false-block + o) 0 (omega arith) (omega (arith, end-big bs s W l h)) (omega arith)
-        (at-false o b ∙ if=-no o 12 _ _ n12
-        ∙ by< o (68 - 4 * s .top) (λ c. if<-yes o _ _ _ c) (λ c. if<-no o _ _ _ c ∙ if<-yes 64 o _ _ (omega arith)))
+  -- what is found past y on level j is a start past y, or 0
+  bound : (j y : ℕ) → (next-bin j y ≤ 65536) × ((q : ℕ) → q ≢ 0 → (q < blocks-at) ⊎ (sizeAt bs q ≤ y) → next-bin j y ≢ q)
+  bound j y =
+      by= (next-bin j y) 0 (λ e. (omega arith, λ q nz c k. nz (sym k ∙ e)))
+      (λ ne. let r = above-some s L j y ne in
+      let o = reach-in s L j (r .0) (next-bin j y) (r .2) ne .2 in
+      let st = start-of bs s W l h (r .0) (next-bin j y) o in
+      (omega arith, λ q nz c k. apart q (r .0) (r .1) (subst (λ (v : ℕ). 1 ≤ count v (s .bins (r .0))) k o) c))
+    where
+      apart : (q z : ℕ) → y < z → 1 ≤ count q (s .bins z) → (q < blocks-at) ⊎ (sizeAt bs q ≤ y) → ⊥
+      apart q z yz o (inl c) = omega (arith, start-of bs s W l h z q o .0)
+      apart q z yz o (inr c) = omega (arith, sizes z q o .0)
 
-    chain-word : wordAt 4 bs (false-block + chain-at) ≡ linkWord false-block (next-bin 64)
-    chain-word =
-        reads bs s W l h (false-block + chain-at) (linkWord false-block (next-bin 64)) refl (omega (arith, end-big bs s W l h))
-        (linkWord-small false-block (next-bin 64))
-        (false-word s 1 (omega arith) (omega arith) (omega arith) ∙ ap (λ (v : ℕ). some (linkWord false-block v)) (above-is 64))
+  -- an index word that is the link to it: it leads there, and is written as it should be
+  leads : (j y q : ℕ) → q ≢ 0 → q ≤ 65536 → (q < blocks-at) ⊎ (sizeAt bs q ≤ y) → wordAt 4 bs (q + wordOf j) ≡ linkWord q (next-bin j y)
+      → Link bs j q × (nextOn bs j q ≡ next-bin j y)
+  leads j y q nz small c w =
+      let on : nextOn bs j q ≡ next-bin j y = ap (followed q) w ∙ followed-linkWord q (next-bin j y) small (bound j y .0) (bound j y .1 q nz c) in
+      (w ∙ ap (linkWord q) (sym on), on)
 
-    chain-on : nextBin bs false-block ≡ next-bin 64
-    chain-on = ap (followed false-block) chain-word
-        ∙ followed-linkWord false-block (next-bin 64) (omega arith) (bound 64 .0) (bound 64 .1 false-block (omega arith) (inl (omega arith)))
+  tops : (z : ℕ) → 64 < z → first (s .bins z) ≢ 0 → (wordAt 4 bs (first (s .bins z) + level-at) ≡ height t z)
+      × ((j : ℕ) → 1 ≤ j → j ≤ height t z → Link bs j (first (s .bins z)) × (nextOn bs j (first (s .bins z)) ≡ next-bin j z))
+  tops z z64 ne =
+      let q : ℕ = first (s .bins z) in
+      let o = first-count (s .bins z) q refl ne in
+      let i = sizes z q o in
+      let f = loose s W .found z q o in
+      let st = start-of bs s W l h z q o in
+      let z72 : 72 ≤ z = omega arith in
+      let h13 : height t z ≤ 13 = omega (arith, height-le t z, L .top13) in (
+        reads bs s W l h (q + level-at) (height t z) (omega arith) (omega arith) (omega arith) (at-level s q z (f .0) (f .1) z72 refl),
+        λ j j1 jh. leads j z q ne (omega arith) (inr (omega arith)) (index-reads bs s L (W .fits) l h q z z72 o refl j j1 jh),
+      )
 
-    is-listed : lists listMarks bs (length marks) marks ≡ true
-    unfolding lists
-    is-listed =
-        let r = smalls-yes bs n (s .bins) sizes linked-small linked-large (λ z a b c. small-reads bs s W l h z a b c) 8 8 0
-        (length marks) marks refl refl refl refl start-rest in
-        ap (λ (m : Left (List ℕ)). if-left m false (λ k ms'. chain listMarks bs (suc k) k ms' 64 (nextBin bs false-block))) (r .2)
-        ∙ ap (chain listMarks bs (suc (r .0)) (r .0) (r .1) 64) chain-on
-        ∙ chain-yes bs n (s .bins) sizes linked-small linked-large tops (suc (r .0)) (r .0) (r .1) 64 (omega arith) (r .3) (omega arith) (r .4)
+  false-index : (j : ℕ) → 1 ≤ j → j ≤ t → Link bs j false-block × (nextOn bs j false-block ≡ next-bin j 64)
+  false-index j j1 jt = leads j 64 false-block (omega arith) (omega arith) (inl (omega arith)) (false-reads bs s L (W .fits) l h j j1 jt)
 
-    pub accepts : inspect listMarks bs ≡ true
-    unfolding inspect
-    accepts =
-        let rest8 = sized-past .0 in
-        let e1 = is-R in let e2 = is-E in let e3 = ends in let f = W .fits in
-        guard-yes (size-tests bs) false _ (
-          allowed-yes (length bs) (record
-              { least = omega (arith, end-big bs s W l h); most = omega arith; eights = omega (arith, sized-eight (blocks s) (W .sized)) }),
-          tt,
-        )
-        ∙ guard-yes (rest-tests bs) false _ (rest-passes bs (record {
-          past-blocks = omega arith;
-          room = omega arith;
-          inside = omega arith;
-          start-eights = omega (arith, sized-eight (s .low) sized-low);
-          end-eights = omega (arith, sized-eight (s .low) sized-low);
-          head = ap (wordAt 4 bs) is-R ∙ rest-head ∙ omega arith ∙ sym (free-head (E bs - R bs) (omega arith));
-        }))
-        ∙ guard-yes (false-tests bs) false _ (false-passes bs (record {
-          false-word = false-is;
-          level-word = top-reads bs s W l h ∙ t1;
-          chain-word = chain-word ∙ ap (linkWord false-block) (sym chain-on);
-          past-chain = false-zero 68 (omega arith) refl (omega arith) (omega arith);
-          halves = cleared-yes bs 12 8 4 header-zero;
-          below-level = cleared-yes bs 3 4 false-block (λ i b. false-zero (4 * i) (omega arith) (omega arith) (omega arith) (omega arith));
-          reserved = cleared-yes bs 12 4 (false-block + 16) (λ i b. ap (wordAt 4 bs) (omega arith)
-              ∙ false-zero (16 + 4 * i) (omega arith) (omega arith) (omega arith) (omega arith));
-          long = omega arith;
-        }))
-        ∙ ap (λ (m : Scanned (List ℕ)). if-seen m false
-        (λ n ms sum. guard (same (wordAt 4 bs free-word-at) (sum + (E bs - R bs) - 4) ∷ []) false (lists listMarks bs n ms))) is-scanned
-        ∙ guard-yes (same (wordAt 4 bs free-word-at) (freeSum (s .low) + freeSum (s .high) + (E bs - R bs) - 4) ∷ []) false _
-        (free-word ∙ omega arith, tt)
-        ∙ is-listed
+  false-zero : (o : ℕ) → o < 72 → o % 4 ≡ 0 → o ≢ level-at → (o < 68 - 4 * t) ⊎ (chain-at < o) → wordAt 4 bs (false-block + o) ≡ 0
+  unfolding index
+  false-zero o b al n12 c =
+      reads bs s W l h (false-block + o) 0 (omega arith) (omega (arith, end-big bs s W l h)) (omega arith)
+      (at-false o b ∙ if=-no o 12 _ _ n12
+      ∙ by< o (68 - 4 * t) (λ d. if<-yes o _ _ _ d) (λ d. if<-no o _ _ _ d ∙ if<-yes 64 o _ _ (⊎-elim (λ e. absurd (omega arith)) (λ e. e) c)))
+
+  -- at first each level awaits the false block
+  at-first : (j : ℕ) → 1 ≤ j → j ≤ 13 → awaited false-block (replicate 12 false-block) j ≡ false-block
+  at-first j j1 j13 = getD-replicate 13 (j - 1) false-block 0 (omega arith)
+
+  is-listed : lists listMarks bs (length marks) marks ≡ true
+  unfolding lists
+  is-listed =
+      let r = smalls-yes bs n (s .bins) sizes linked-small linked-large (λ z a b c. small-reads bs s W l h z a b c) 8 8 0
+      (length marks) marks refl refl refl refl start-rest in
+      let x = indexed-yes bs t false-block (replicate 12 false-block) (L .top1) (L .top13)
+      (λ j j1 jt. (at-first j j1 (omega (arith, L .top13)), false-index j j1 jt .0)) in
+      let ix = indexed-inv bs t false-block (replicate 12 false-block) (x .0) (length-replicate {A = ℕ} 12 false-block) (x .1) in
+      ap (λ (m : Left (List ℕ)). if-left m false (λ k ms'. if-awaiting (falseIndexed bs) false
+      (λ ws. chain listMarks (topOf bs) bs (suc k) k ms' 64 (nextOn bs 1 false-block) ws))) (r .2)
+      ∙ ap (λ (v : ℕ). if-awaiting (indexed bs v false-block (replicate 12 false-block)) false
+      (λ ws. chain listMarks v bs (suc (r .0)) (r .0) (r .1) 64 (nextOn bs 1 false-block) ws)) is-top
+      ∙ ap (λ (m : Awaited). if-awaiting m false (λ ws. chain listMarks t bs (suc (r .0)) (r .0) (r .1) 64 (nextOn bs 1 false-block) ws)) (x .1)
+      ∙ chain-yes bs n (s .bins) sizes linked-small linked-large t (W .layout) tops (suc (r .0)) (r .0) (r .1) 64 (nextOn bs 1 false-block) (x .0)
+      (omega arith) (r .3) (omega arith) (r .4) (ix .long ∙ length-replicate {A = ℕ} 12 false-block)
+      (λ j j1 jt. ix .next j j1 jt ∙ false-index j j1 jt .1)
+
+  pub accepts : inspect listMarks bs ≡ true
+  unfolding inspect
+  accepts =
+      let rest8 = sized-past .0 in
+      let e1 = is-R in let e2 = is-E in let e3 = ends in let f = W .fits in
+      guard-yes (size-tests bs) false _ (
+        allowed-yes (length bs) (record
+            { least = omega (arith, end-big bs s W l h); most = omega arith; eights = omega (arith, sized-eight (blocks s) (W .sized)) }),
+        tt,
+      )
+      ∙ guard-yes (rest-tests bs) false _ (rest-passes bs (record {
+        past-blocks = omega arith;
+        room = omega arith;
+        inside = omega arith;
+        start-eights = omega (arith, sized-eight (s .low) sized-low);
+        end-eights = omega (arith, sized-eight (s .low) sized-low);
+        head = ap (wordAt 4 bs) is-R ∙ rest-head ∙ omega arith ∙ sym (free-head (E bs - R bs) (omega arith));
+      }))
+      ∙ guard-yes (false-tests bs) false _ (false-passes bs (record {
+        false-word = false-is;
+        past-chain = false-zero 68 (omega arith) refl (omega arith) (inr (omega arith));
+        halves = cleared-yes bs 12 8 4 header-zero;
+        below-level = cleared-yes bs 3 4 false-block
+            (λ i b. false-zero (4 * i) (omega arith) (omega arith) (omega arith) (inl (omega (arith, L .top13))));
+        long = omega arith;
+        level-word = top-reads bs s W l h ∙ sym is-top;
+        reserved = ap (λ (v : ℕ). cleared bs (levels - v) 4 (false-block + 16)) is-top ∙ cleared-yes bs (levels - t) 4 (false-block + 16)
+            (λ i b. ap (wordAt 4 bs) (omega arith) ∙ false-zero (16 + 4 * i) (omega arith) (omega arith) (omega arith) (inl (omega arith)));
+      }))
+      ∙ ap (λ (m : Scanned (List ℕ)). if-seen m false
+      (λ n ms sum. guard (same (wordAt 4 bs free-word-at) (sum + (E bs - R bs) - 4) ∷ []) false (lists listMarks bs n ms))) is-scanned
+      ∙ guard-yes (same (wordAt 4 bs free-word-at) (freeSum (s .low) + freeSum (s .high) + (E bs - R bs) - 4) ∷ []) false _
+      (free-word ∙ omega arith, tt)
+      ∙ is-listed

@@ -10,7 +10,7 @@ use lib.ListN.{length}
 use Rattle.heads.proofs.HeadLaws.{free-head}
 use Rattle.heads.specs.Links.{linkWord}
 use Rattle.accept.proofs.Accept.{run-after}
-use Rattle.accept.proofs.Chains.{LinkedL, LinkedS, false-true, large-sz, small-sz}
+use Rattle.accept.proofs.Chains.{LinkedL, LinkedS, Tops, false-true, large-sz, small-sz}
 use Rattle.accept.proofs.MarkLists.{linked-next, linked-prev, linked-tests, next-in}
 use Rattle.accept.proofs.Scanning.{Facts, Foot, Run, count-push, push}
 use Rattle.accept.proofs.Tested.{RestStands}
@@ -30,16 +30,9 @@ use Rattle.paper.specs.Blocks.{Block, Kind, State, block, free, freeSum, held, 
 use Rattle.paper.specs.Governed.{above, blockWord, headWord, headerWord, height, index, largeWord, link, pastHead, sheet, smallWord, walk}
 use Rattle.paper.specs.Layout.{blocks-at, chain-at, false-block, false-word-at, free-word-at, large, level-at, next-at, small-bins}
 use Rattle.paper.specs.Sheet.{Holds}
-use Rattle.paper.specs.Sound.{High, Low, Sized, SoundTo, WellFormed, freeAt}
+use Rattle.paper.specs.Sound.{High, Low, Sized, Sound, WellFormed, freeAt}
 use Rattle.words.specs.Choice.{by<, by=, if<-no, if<-yes, if=-no, if=-yes}
 use Rattle.words.specs.Words.{Bytes, wordAt}
-
--- the index words of the first block of bin z
-abbrev pub TopsTo : ℕ → List ℕ → ℕ → (ℕ → List ℕ) → ℕ → Type 0
-TopsTo t bs n b z =
-    first (b z) ≢ 0
-    → (wordAt 4 bs (first (b z) + level-at) ≡ height t z)
-    × ((j : ℕ) → 1 ≤ j → j ≤ height t z → wordAt 4 bs (first (b z) + (68 - 4 * j)) ≡ linkWord (first (b z)) (above t n b j z))
 
 large-of : (z : ℕ) → small z ≡ 0 → large ≤ z
 large-of z h = by< z large (λ l. absurd (omega (arith, sym (if<-yes z 72 1 0 l) ∙ h))) (λ l. l)
@@ -150,7 +143,7 @@ module _ (bs : List ℕ) (by : Bytes bs) (al : Allowed (length bs)) (rt : RestSt
   module _ (t : ℕ) (lay : (t ≡ 1) ⊎ (t ≡ 13)) (t13 : t ≤ 13) (free-word : wordAt 4 bs free-word-at ≡ freeSum xs + freeSum ys + rest - 4) (b : ℕ → List ℕ)
       (linked-small : (u : ℕ) → u ≤ 64 → LinkedS bs u (b u)) (linked-large : (u : ℕ) → 64 < u → LinkedL bs u (b u))
       (firsts : (u : ℕ) → 8 ≤ u → u ≤ 64 → u % 8 ≡ 0 → first (b u) ≡ wordAt 4 bs (u + small-bins))
-      (tops : (u : ℕ) → 64 < u → TopsTo t bs pool-end b u)
+      (tops : (u : ℕ) → 64 < u → Tops bs t pool-end b u)
       (false-word : wordAt 4 bs false-word-at ≡ false-block) (level-word : wordAt 4 bs (false-block + level-at) ≡ t)
       (halves-zero : (i : ℕ) → i < 12 → wordAt 4 bs (4 + 8 * i) ≡ 0)
       (false-zero : (o : ℕ) → o < 72 → o % 4 ≡ 0 → o ≢ level-at → (o < 68 - 4 * t) ⊎ (chain-at < o) → wordAt 4 bs (false-block + o) ≡ 0)
@@ -293,5 +286,5 @@ module _ (bs : List ℕ) (by : Bytes bs) (al : Allowed (length bs)) (rt : RestSt
     held-by : Holds (sheet s) bs
     held-by = holds-from (sheet s) bs (omega (arith, al)) by (λ a al l. sheet-ok a al)
 
-    pub built : SoundTo t bs
-    built = record { length-allowed = al; state = s; well-formed = wf; ends = is-end; holds = held-by; is-top = refl }
+    pub built : Sound bs
+    built = record { length-allowed = al; state = s; well-formed = wf; ends = is-end; holds = held-by }

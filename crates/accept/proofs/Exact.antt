@@ -1,15 +1,17 @@
--- The inspection accepts the sound pools, and no others.
+-- The inspection accepts the sound pools of either layout, and no others.
 use mathlib.Core.Bool.{false, true}
 use mathlib.Core.List.{List, [], _∷_}
-use mathlib.Core.Logic.{_≢_, _⊎_, inl, inr}
+use mathlib.Core.Logic.{_≢_, _⊎_, inl, inr, ⊎-elim}
 use mathlib.Core.Path.{_∙_, _≡_, ap, refl, subst, sym}
 use Prim.Native.Nat.{_%_, _*_, _+_, _-_, _/_, _<_, _≤_, suc, ℕ}
 use native.Mathlib.Omega.{arith}
-use lib.ListN.{length}
+use lib.ListN.{length, length-replicate, replicate}
 use Rattle.heads.specs.Links.{linkWord}
+use Rattle.accept.proofs.Above.{above-cong}
 use Rattle.accept.proofs.Accept.{accepts}
-use Rattle.accept.proofs.Build.{TopsTo, Walked, built, cleared-inv, marks, pool-end, sizes}
-use Rattle.accept.proofs.Chains.{LinkedL, Tops, chain-inv, false-true, inv-left, smalls-inv}
+use Rattle.accept.proofs.Awaited.{indexed-inv, inv-awaiting}
+use Rattle.accept.proofs.Build.{Walked, built, cleared-inv, marks, pool-end, sizes}
+use Rattle.accept.proofs.Chains.{LinkedL, chain-inv, false-true, inv-left, smalls-inv}
 use Rattle.guards.proofs.Guards.{guard-inv}
 use Rattle.accept.proofs.MarkLists.{listMarks}
 use Rattle.accept.proofs.Scanning.{push, scan-inv, stray-seen}
@@ -17,18 +19,19 @@ use Rattle.accept.proofs.Tested.{FalseStands, RestStands, false-stands,
 use Rattle.header.specs.Header.{E, R, false-tests, rest-tests}
 use Rattle.runs.specs.Runs.{if-seen, Scanned, scan, seen, stray}
 use Rattle.accept.specs.Inspect.{inspect, scanned, size-tests}
-use Rattle.lists.specs.Lists.{chain, lists, nextBin, smalls}
+use Rattle.levels.proofs.Levels.{top-cases}
+use Rattle.levels.specs.Levels.{topOf, wordOf}
+use Rattle.lists.specs.Index.{falseIndexed, if-awaiting, nextOn}
+use Rattle.lists.specs.Lists.{chain, lists, smalls}
 use Rattle.guards.specs.Tests.{same}
 use Rattle.paper.proofs.reads.Allowed.{allowed-inv}
-use Rattle.paper.proofs.bins.Seek.{seek-cong}
-use Rattle.paper.proofs.sheet.Fields.{height-one}
 use Rattle.paper.specs.Allowed.{Allowed}
-use Rattle.paper.specs.Bins.{first, seek}
+use Rattle.paper.specs.Bins.{first}
 use Rattle.paper.specs.Blocks.{Block, freeSum}
-use Rattle.paper.specs.Governed.{above, height, reach}
-use Rattle.paper.specs.Layout.{blocks-at, chain-at, false-block, free-word-at, level-at}
+use Rattle.paper.specs.Governed.{above}
+use Rattle.paper.specs.Layout.{blocks-at, chain-at, false-block, free-word-at, level-at, levels}
 use Rattle.paper.specs.Sound.{Sound}
-use Rattle.words.specs.Choice.{by<, if<-no}
+use Rattle.words.specs.Choice.{by<}
 use Rattle.words.specs.Words.{Bytes, wordAt}
 
 pub inv-seen : {M A : Type 0} (m : Scanned M) (bad y : A) (f : ℕ → M → ℕ → A) → bad ≢ y → if-seen m bad f ≡ y
@@ -36,26 +39,13 @@ pub inv-seen : {M A : Type 0} (m : Scanned M) (bad y : A) (f : ℕ → M → ℕ
 inv-seen stray bad y f n h = absurd (n h)
 inv-seen (seen k ms sum) bad y f n h = (k, ms, sum, refl, h)
 
--- one level
-above-one : (n : ℕ) (b : ℕ → List ℕ) (y : ℕ) → above 1 n b 1 y ≡ seek (λ (u : ℕ). first (b u)) n (suc y)
-unfolding above reach
-above-one n b y = seek-cong _ _ n (suc y) (λ u k. if<-no (height 1 u) 1 _ _ (omega (arith, height-one 1 u refl)))
-
-pub tops-one : (bs : List ℕ) (n : ℕ) (b : ℕ → List ℕ) (u : ℕ) → Tops bs n b u → TopsTo 1 bs n b u
-tops-one bs n b u h nz =
-    let r = h nz in (
-      r .0 ∙ sym (height-one 1 u refl),
-      λ j j1 jh. let e : j ≡ 1 = omega (arith, height-one 1 u refl) in
-          subst (λ (i : ℕ). wordAt 4 bs (first (b u) + (68 - 4 * i)) ≡ linkWord (first (b u)) (above 1 n b i u)) (sym e)
-          (r .1 ∙ ap (linkWord (first (b u))) (sym (above-one n b u))),
-    )
-
-pub false-zero : (bs : List ℕ) → FalseStands bs → (o : ℕ) → o < 72 → o % 4 ≡ 0 → o ≢ level-at
-    → (o < chain-at) ⊎ (chain-at < o) → wordAt 4 bs (false-block + o) ≡ 0
-false-zero bs ft o l o4 n12 (inl c) =
+-- the words of the false block that are 0, as far as the index leaves them
+pub false-zero : (bs : List ℕ) → FalseStands bs → topOf bs ≤ levels → (o : ℕ) → o < 72 → o % 4 ≡ 0 → o ≢ level-at
+    → (o < 68 - 4 * topOf bs) ⊎ (chain-at < o) → wordAt 4 bs (false-block + o) ≡ 0
+false-zero bs ft t13 o l o4 n12 (inl c) =
     by< o level-at (λ d. ap (wordAt 4 bs) (omega arith) ∙ cleared-inv bs 3 4 false-block (ft .below-level) (o / 4) (omega arith))
-    (λ d. ap (wordAt 4 bs) (omega arith) ∙ cleared-inv bs 12 4 (false-block + 16) (ft .reserved) ((o - 16) / 4) (omega arith))
-false-zero bs ft o l o4 n12 (inr c) = ap (wordAt 4 bs) (omega arith) ∙ ft .past-chain
+    (λ d. ap (wordAt 4 bs) (omega arith) ∙ cleared-inv bs (levels - topOf bs) 4 (false-block + 16) (ft .reserved) ((o - 16) / 4) (omega arith))
+false-zero bs ft t13 o l o4 n12 (inr c) = ap (wordAt 4 bs) (omega arith) ∙ ft .past-chain
 
 module _ (bs : List ℕ) (by : Bytes bs) (al : Allowed (length bs)) (rt : RestStands bs) (xs ys : List Block) (walked : Walked bs xs ys)
     (free-word : wordAt 4 bs free-word-at ≡ freeSum xs + freeSum ys + (E bs - R bs) - 4) where
@@ -65,31 +55,42 @@ module _ (bs : List ℕ) (by : Bytes bs) (al : Allowed (length bs)) (rt : RestSt
   abbrev m : ℕ
   m = pool-end bs by al rt xs ys walked
 
+  abbrev t : ℕ
+  t = topOf bs
+
+  t1 : 1 ≤ t
+  t1 = ⊎-elim (λ e. omega arith) (λ e. omega arith) (top-cases bs)
+
+  t13 : t ≤ levels
+  t13 = ⊎-elim (λ e. omega arith) (λ e. omega arith) (top-cases bs)
+
   from-lists : FalseStands bs → lists listMarks bs (length ms) ms ≡ true → Sound bs
   unfolding lists
   from-lists ft h =
       let a = inv-left (smalls listMarks bs 8 8 (length ms) ms) false true
-      (λ k ms'. chain listMarks bs (suc k) k ms' 64 (nextBin bs false-block)) false-true h in
+      (λ k ms'. if-awaiting (falseIndexed bs) false (λ ws. chain listMarks t bs (suc k) k ms' 64 (nextOn bs 1 false-block) ws)) false-true h in
       let c = smalls-inv bs 8 8 (length ms) ms (a .0) (a .1) refl refl refl (a .2) in
-      let B = chain-inv bs m (suc (a .0)) (a .0) (a .1) 64 (nextBin bs false-block) (c .0)
-      (λ x o. sizes bs by al rt xs ys walked x (omega (arith, c .1 x))) (a .3) in
+      let w = inv-awaiting (falseIndexed bs) false true (λ ws. chain listMarks t bs (suc (a .0)) (a .0) (a .1) 64 (nextOn bs 1 false-block) ws)
+      false-true (a .3) in
+      let lw = length-replicate {A = ℕ} 12 false-block in
+      let ix = indexed-inv bs t false-block (replicate 12 false-block) (w .0) lw (w .1) in
+      let B = chain-inv bs t m t1 t13 (suc (a .0)) (a .0) (a .1) 64 (nextOn bs 1 false-block) (w .0) (c .0) (ix .long ∙ lw)
+      (λ x o. sizes bs by al rt xs ys walked x (omega (arith, c .1 x))) (w .2) in
       let S = c .2 (B .bin) (B .below) (B .all) in
-      let past : (u : ℕ) → 64 ≤ u → seek (λ (v : ℕ). first (B .bin v)) m (suc u) ≡ seek (λ (v : ℕ). first (S .bin v)) m (suc u) =
-      λ u l. seek-cong _ _ m (suc u) (λ v k. ap first (sym (S .above v (omega arith)))) in
-      built bs by al rt xs ys walked 1 (inl refl) (omega arith) free-word (S .bin) (S .linked)
+      let past : (j u : ℕ) → 64 ≤ u → above t m (B .bin) j u ≡ above t m (S .bin) j u =
+      λ j u l. above-cong t m (B .bin) (S .bin) j u (λ v k. sym (S .above v (omega arith))) in
+      built bs by al rt xs ys walked t (top-cases bs) t13 free-word (S .bin) (S .linked)
       (λ u l. subst (LinkedL bs u) (sym (S .above u l)) (B .linked u))
       (λ u a b c. S .firsts u a b c)
-      (λ u l. tops-one bs m (S .bin) u (λ nz. let e = S .above u l in
-      let t = B .tops u (λ z. nz (ap first e ∙ z)) in (
-        ap (λ (q : List ℕ). wordAt 4 bs (first q + level-at)) e ∙ t .0,
-        ap (λ (q : List ℕ). wordAt 4 bs (first q + chain-at)) e ∙ t .1
-            ∙ ap (λ (q : List ℕ). linkWord (first q) (seek (λ (v : ℕ). first (B .bin v)) m (suc u))) (sym e)
-            ∙ ap (linkWord (first (S .bin u))) (past u (omega arith)),
-      )))
-      (ft .false-word) (ft .level-word) (cleared-inv bs 12 8 4 (ft .halves)) (false-zero bs ft)
-      (λ j j1 jt. let e : j ≡ 1 = omega arith in
-      subst (λ (i : ℕ). wordAt 4 bs (false-block + (68 - 4 * i)) ≡ linkWord false-block (above 1 m (S .bin) i 64)) (sym e)
-      (ft .chain-word ∙ ap (linkWord false-block) (B .begins ∙ past 64 (omega arith) ∙ sym (above-one m (S .bin) 64))))
+      (λ u l nz. let e = S .above u l in
+      let r = B .tops u (λ z. nz (ap first e ∙ z)) in (
+        ap (λ (q : List ℕ). wordAt 4 bs (first q + level-at)) e ∙ r .0,
+        λ j j1 jh. ap (λ (q : List ℕ). wordAt 4 bs (first q + wordOf j)) e ∙ r .1 j j1 jh
+            ∙ ap (λ (q : List ℕ). linkWord (first q) (above t m (B .bin) j u)) (sym e) ∙ ap (linkWord (first (S .bin u))) (past j u (omega arith)),
+      ))
+      (ft .false-word) (ft .level-word) (cleared-inv bs 12 8 4 (ft .halves)) (false-zero bs ft t13)
+      (λ j j1 jt. ix .here j j1 jt .1
+      ∙ ap (linkWord false-block) (sym (ix .next j j1 jt) ∙ B .begins j j1 jt ∙ past j 64 (omega arith)))
       (S .all)
 
 module _ (bs : List ℕ) where
@@ -114,4 +115,4 @@ module _ (bs : List ℕ) where
       (subst (λ (v : ℕ). lists listMarks bs v (s1 .1) ≡ true) (hi .6) (g4 .1)))
 
   pub all-sound : Sound bs → inspect listMarks bs ≡ true
-  all-sound S = accepts bs (S .state) (S .well-formed) (sym (S .ends)) (S .holds) (S .is-top)
+  all-sound S = accepts bs (S .state) (S .well-formed) (sym (S .ends)) (S .holds)

@@ -1,4 +1,6 @@
 pub mod MarkLists
+pub mod Awaited
+pub mod Above
 pub mod Scanning
 pub mod Chains
 pub mod Passing

@@ -12,7 +12,9 @@ use Rattle.header.specs.Header.{E, R, false-tests, rest-tests}
 use Rattle.runs.specs.Runs.{if-seen, Scanned, fit-tests, free-tests, scan, seen, stray}
 use Rattle.heads.specs.Heads.{sizeAt}
 use Rattle.accept.specs.Inspect.{inspect, scanned, size-tests}
-use Rattle.lists.specs.Lists.{Left, chain, first-tests, follow, if-left, large-tests, left, lists, lost, nextBin, nextLarge, nextSmall, small-tests, smalls}
+use Rattle.levels.specs.Levels.{topOf}
+use Rattle.lists.specs.Index.{Awaited, astray, awaiting, falseIndexed, firstIndexed, if-awaiting, nextOn}
+use Rattle.lists.specs.Lists.{Left, chain, follow, if-left, large-tests, left, lists, lost, nextLarge, nextSmall, small-tests, smalls}
 use Rattle.marks.specs.MarkSets.{bitMarks, markAt}
 use Rattle.guards.specs.Tests.{Test, guard, holds, less, same}
 use Rattle.marks.proofs.Laws.{length-put}
@@ -121,6 +123,12 @@ left-rel Q lost (left k ws) bad f bad' f' r n h = absurd r
 left-rel Q (left k ms) lost bad f bad' f' r n h = absurd r
 left-rel Q (left k ms) (left k' ws) bad f bad' f' r n h = subst (λ (v : ℕ). Q (f k ms) (f' v ws)) (r .0) (h k ms ws (r .1))
 
+-- the same levels are awaited: the index has no marks
+awaiting-rel : {A B : Type 0} (Q : A → B → Type 0) (m : Awaited) (bad : A) (f : List ℕ → A) (bad' : B) (f' : List ℕ → B) → Q bad bad'
+    → ((ws : List ℕ) → Q (f ws) (f' ws)) → Q (if-awaiting m bad f) (if-awaiting m bad' f')
+awaiting-rel Q astray bad f bad' f' n h = n
+awaiting-rel Q (awaiting ws) bad f bad' f' n h = h ws
+
 -- every mark is below p, where a mark may be put
 abbrev pub RepScan : ℕ → Scanned (List ℕ) → Scanned (List ℕ) → Type 0
 RepScan e stray stray = Unit {0}
@@ -148,18 +156,37 @@ module _ (bs : List ℕ) where
       lost (λ k' ms'. smalls listMarks bs c (z + 8) k' ms') lost (λ k' ms'. smalls bitMarks bs c (z + 8) k' ms')
       (sim-follow (small-tests bs z) (nextSmall bs) k ms ws 0 (wordAt 4 bs (z + small-bins)) r) tt (λ k' ms' ws' r'. sim-smalls c (z + 8) k' ms' ws' r')
 
-  pub sim-chain : (c k : ℕ) (ms ws : List ℕ) (y f : ℕ) → Rep ms ws → chain listMarks bs c k ms y f ≡ chain bitMarks bs c k ws y f
+  pub sim-chain : (t c k : ℕ) (ms ws : List ℕ) (y f : ℕ) (aw : List ℕ) → Rep ms ws
+      → chain listMarks t bs c k ms y f aw ≡ chain bitMarks t bs c k ws y f aw
   unfolding chain
-  sim-chain zero k ms ws y f r = refl
-  sim-chain (suc c) k ms ws y f r =
+  sim-chain t zero k ms ws y f aw r = refl
+  sim-chain t (suc c) k ms ws y f aw r =
       by= f 0 (λ e. simp ifs)
-      (λ e. simp ifs (guard-rel (λ (a b : Bool). a ≡ b) (first-tests bs y f) false _ false _ refl
-      (λ t. left-rel (λ (a b : Bool). a ≡ b) (follow listMarks (large-tests bs (sizeAt bs f)) (nextLarge bs) k ms 0 f)
+      (λ e. simp ifs (awaiting-rel (λ (a b : Bool). a ≡ b) (firstIndexed bs t y (sizeAt bs f) f aw) false
+      (λ aw'. if-left (follow listMarks (large-tests bs (sizeAt bs f)) (nextLarge bs) k ms 0 f) false
+      (λ k' ms'. chain listMarks t bs c k' ms' (sizeAt bs f) (nextOn bs 1 f) aw')) false
+      (λ aw'. if-left (follow bitMarks (large-tests bs (sizeAt bs f)) (nextLarge bs) k ws 0 f) false
+      (λ k' ms'. chain bitMarks t bs c k' ms' (sizeAt bs f) (nextOn bs 1 f) aw')) refl
+      (λ aw'. left-rel (λ (a b : Bool). a ≡ b) (follow listMarks (large-tests bs (sizeAt bs f)) (nextLarge bs) k ms 0 f)
       (follow bitMarks (large-tests bs (sizeAt bs f)) (nextLarge bs) k ws 0 f)
-      false (λ k' ms'. chain listMarks bs c k' ms' (sizeAt bs f) (nextBin bs f)) false
-      (λ k' ms'. chain bitMarks bs c k' ms' (sizeAt bs f) (nextBin bs f))
+      false (λ k' ms'. chain listMarks t bs c k' ms' (sizeAt bs f) (nextOn bs 1 f) aw') false
+      (λ k' ms'. chain bitMarks t bs c k' ms' (sizeAt bs f) (nextOn bs 1 f) aw')
       (sim-follow (large-tests bs (sizeAt bs f)) (nextLarge bs) k ms ws 0 f r) refl
-      (λ k' ms' ws' r'. sim-chain c k' ms' ws' (sizeAt bs f) (nextBin bs f) r'))))
+      (λ k' ms' ws' r'. sim-chain t c k' ms' ws' (sizeAt bs f) (nextOn bs 1 f) aw' r'))))
+
+  pub sim-lists : (k : ℕ) (ms ws : List ℕ) → Rep ms ws → lists listMarks bs k ms ≡ lists bitMarks bs k ws
+  unfolding lists
+  sim-lists k ms ws r =
+      left-rel (λ (a b : Bool). a ≡ b) (smalls listMarks bs 8 8 k ms) (smalls bitMarks bs 8 8 k ws)
+      false (λ k' ms'. if-awaiting (falseIndexed bs) false
+      (λ aw. chain listMarks (topOf bs) bs (suc k') k' ms' 64 (nextOn bs 1 false-block) aw))
+      false (λ k' ms'. if-awaiting (falseIndexed bs) false
+      (λ aw. chain bitMarks (topOf bs) bs (suc k') k' ms' 64 (nextOn bs 1 false-block) aw))
+      (sim-smalls 8 8 k ms ws r) refl
+      (λ k' ms' ws' r'. awaiting-rel (λ (a b : Bool). a ≡ b) (falseIndexed bs) false
+      (λ aw. chain listMarks (topOf bs) bs (suc k') k' ms' 64 (nextOn bs 1 false-block) aw) false
+      (λ aw. chain bitMarks (topOf bs) bs (suc k') k' ws' 64 (nextOn bs 1 false-block) aw) refl
+      (λ aw. sim-chain (topOf bs) (suc k') k' ms' ws' 64 (nextOn bs 1 false-block) aw r'))
 
   pub sim-scan : (k c e p due n : ℕ) (ms ws : List ℕ) (sum : ℕ) → p % 8 ≡ 0 → e ≤ 65536 → Rep ms ws → ((x : ℕ) → p ≤ x → count x ms ≡ 0)
       → RepScan e (scan listMarks bs k c e p due n ms sum) (scan bitMarks bs k c e p due n ws sum)
@@ -192,7 +219,7 @@ module _ (bs : List ℕ) where
 
   -- the whole
   pub sim-inspect : inspect listMarks bs ≡ inspect bitMarks bs
-  unfolding inspect lists
+  unfolding inspect
   sim-inspect =
       guard-rel (λ (a b : Bool). a ≡ b) (size-tests bs) false _ false _ refl (λ st.
       guard-rel (λ (a b : Bool). a ≡ b) (rest-tests bs) false _ false _ refl (λ rt. let rest = rest-stands bs rt in
@@ -202,8 +229,5 @@ module _ (bs : List ℕ) where
       false (λ n ms sum. guard (same (wordAt 4 bs free-word-at) (sum + (E bs - R bs) - 4) ∷ []) false (lists bitMarks bs n ms))
       (sim-scanned (omega (arith, rest .room)) (omega (arith, rest .inside)) (allowed-inv (length bs) (st .0) .most) (rest .end-eights)) refl
       (λ n ms ws sum r fresh.
-      guard-rel (λ (a b : Bool). a ≡ b) (same (wordAt 4 bs free-word-at) (sum + (E bs - R bs) - 4) ∷ []) false _ false _ refl (λ ht.
-      left-rel (λ (a b : Bool). a ≡ b) (smalls listMarks bs 8 8 n ms) (smalls bitMarks bs 8 8 n ws)
-      false (λ k' ms'. chain listMarks bs (suc k') k' ms' 64 (nextBin bs false-block))
-      false (λ k' ms'. chain bitMarks bs (suc k') k' ms' 64 (nextBin bs false-block))
-      (sim-smalls 8 8 n ms ws r) refl (λ k' ms' ws' r'. sim-chain (suc k') k' ms' ws' 64 (nextBin bs false-block) r'))))))
+      guard-rel (λ (a b : Bool). a ≡ b) (same (wordAt 4 bs free-word-at) (sum + (E bs - R bs) - 4) ∷ []) false _ false _ refl
+      (λ ht. sim-lists n ms ws r)))))

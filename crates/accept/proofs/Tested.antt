@@ -7,8 +7,8 @@ use lib.ListN.{length}
 use Rattle.guards.proofs.Guards.{All}
 use Rattle.header.specs.Header.{E, R, cleared, false-tests, rest-tests}
 use Rattle.heads.specs.Heads.{freeHead}
-use Rattle.heads.specs.Links.{followed, linkWord}
-use Rattle.paper.specs.Layout.{blocks-at, chain-at, false-block, false-word-at, level-at}
+use Rattle.levels.specs.Levels.{topOf}
+use Rattle.paper.specs.Layout.{blocks-at, chain-at, false-block, false-word-at, level-at, levels}
 use Rattle.words.specs.Words.{wordAt}
 
 module _ (bs : List ℕ) where
@@ -35,30 +35,27 @@ module _ (bs : List ℕ) where
   pub rest-passes : RestStands → All (rest-tests bs)
   rest-passes r = (r .past-blocks, (r .room, (r .inside, (r .start-eights, (r .end-eights, (r .head, tt))))))
 
-  -- of the header's fixed words and the false block
+  -- of the header's fixed words and the false block, but for its index words
   pub record FalseStands : Type 0 where
     pub false-word : wordAt 4 bs false-word-at ≡ false-block
-    pub level-word : wordAt 4 bs (false-block + level-at) ≡ 1
-    pub chain-word : wordAt 4 bs (false-block + chain-at) ≡ linkWord false-block (followed false-block (wordAt 4 bs (false-block + chain-at)))
     pub past-chain : wordAt 4 bs (false-block + chain-at + 4) ≡ 0
     pub halves : cleared bs 12 8 4 ≡ true
     pub below-level : cleared bs 3 4 false-block ≡ true
-    pub reserved : cleared bs 12 4 (false-block + 16) ≡ true
     pub long : blocks-at - 1 < length bs
+    pub level-word : wordAt 4 bs (false-block + level-at) ≡ topOf bs
+    pub reserved : cleared bs (levels - topOf bs) 4 (false-block + 16) ≡ true
 
   pub false-stands : All (false-tests bs) → FalseStands
   false-stands t =
       record {
         false-word = t .0;
-        level-word = t .1 .0;
-        chain-word = t .1 .1 .0;
-        past-chain = t .1 .1 .1 .0;
-        halves = t .1 .1 .1 .1 .0;
-        below-level = t .1 .1 .1 .1 .1 .0;
+        past-chain = t .1 .0;
+        halves = t .1 .1 .0;
+        below-level = t .1 .1 .1 .0;
+        long = t .1 .1 .1 .1 .0;
+        level-word = t .1 .1 .1 .1 .1 .0;
         reserved = t .1 .1 .1 .1 .1 .1 .0;
-        long = t .1 .1 .1 .1 .1 .1 .1 .0;
       }
 
   pub false-passes : FalseStands → All (false-tests bs)
-  false-passes f =
-      (f .false-word, (f .level-word, (f .chain-word, (f .past-chain, (f .halves, (f .below-level, (f .reserved, (f .long, tt))))))))
+  false-passes f = (f .false-word, (f .past-chain, (f .halves, (f .below-level, (f .long, (f .level-word, (f .reserved, tt)))))))

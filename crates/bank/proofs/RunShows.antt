@@ -1,7 +1,7 @@
 -- The run theorem: "After any run of set, clear and recall, from an empty bank on a fresh pool that only the bank uses, each piston shows its
 -- latest accepted setting." It holds beside well-behaved neighbours too. By induction on the steps: each keeps the bank.
 use mathlib.Core.List.{List, [], _∷_}
-use mathlib.Core.Logic.{inl}
+use mathlib.Core.Logic.{_⊎_, inl}
 use mathlib.Core.Path.{_≡_, refl}
 use Prim.Native.Nat.{ℕ}
 use lib.ListN.{getD, getD-replicate, length, length-replicate, replicate, List·getD-eq-default}
@@ -64,7 +64,8 @@ unfolding Behaves
 alone-behaves bs bank [] m = tt
 alone-behaves bs bank (c ∷ cs) m = (m .0, alone-behaves (poolAfter bs bank c) (bankAfter bs bank c) cs (m .1))
 
-pub fresh-run-shows : (buffer : List ℕ) → Bytes buffer → Allowed (length buffer) → (cs : List Call) → AllMade cs
-    → Shows (run (layOut buffer .after) empty (alone cs))
-fresh-run-shows buffer bytes a cs m =
-    run-shows (layOut buffer .after) (laid-out-accepted buffer bytes a) (alone cs) (alone-behaves (layOut buffer .after) empty cs m)
+pub fresh-run-shows : (buffer : List ℕ) → Bytes buffer → Allowed (length buffer) → (layout : ℕ) → (layout ≡ 1) ⊎ (layout ≡ 2) → (cs : List Call)
+    → AllMade cs → Shows (run (layOut buffer layout .after) empty (alone cs))
+fresh-run-shows buffer bytes a layout named cs m =
+    run-shows (layOut buffer layout .after) (laid-out-accepted buffer bytes a layout named) (alone cs)
+    (alone-behaves (layOut buffer layout .after) empty cs m)

@@ -1,5 +1,6 @@
 -- A pool between two steps of an operation: its bytes hold the sheet of a state in which a free block may be in no list.
 use mathlib.Core.List.{List}
+use mathlib.Core.Logic.{_⊎_}
 use mathlib.Core.Path.{_∙_, _≡_, subst, sym}
 use Prim.Native.Nat.{_-_, _≤_, ℕ}
 use native.Mathlib.Omega.{arith}
@@ -19,7 +20,7 @@ use Rattle.words.specs.Words.{wordAt}
 
 pub record Between (s : State) (bs : List ℕ) : Type 0 where
   pub loose : Loose s
-  pub layout-1 : s .top ≡ 1
+  pub layout : (s .top ≡ 1) ⊎ (s .top ≡ 13)
   pub fits : end s ≤ 65536
   pub long : length bs ≡ end s
   pub holds : Holds (sheet s) bs
@@ -28,7 +29,7 @@ pub stands-between : (s : State) (bs : List ℕ) → Stands s bs → Between s b
 stands-between s bs S =
     record {
       loose = loose s (S .well-formed);
-      layout-1 = S .layout-1;
+      layout = S .well-formed .layout;
       fits = S .well-formed .fits;
       long = sym (S .ends);
       holds = S .holds;
@@ -41,7 +42,7 @@ module _ (s : State) (bs : List ℕ) (B : Between s bs) where
   step-between s' ps W t e S =
       record {
         loose = W;
-        layout-1 = t ∙ B .layout-1;
+        layout = subst (λ (k : ℕ). (k ≡ 1) ⊎ (k ≡ 13)) (sym t) (B .layout);
         fits = omega (arith, B .fits);
         long = length-puts ps bs ∙ B .long ∙ sym e;
         holds = step-holds (sheet s) (sheet s') bs ps (subst (λ (n : ℕ). Step n (sheet s) (sheet s') ps) (e ∙ sym (B .long)) S) (B .holds);

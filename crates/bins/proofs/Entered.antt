@@ -57,17 +57,7 @@ module _ (O : State) (cs : List ℕ) (B : Between O cs) (N : State) (top : N .to
   unfolding enter
   enters = ap (λ (k : List ℕ). enterBin k q z) (makeFree-stores (puts ps cs) q z inside (omega arith))
 
-  -- the free word is as it was
-  pub entered-word : wordAt 4 (enter (puts ps cs) q z) free-word-at ≡ wordAt 4 cs free-word-at
-  entered-word =
-      let l = in-low (blocks N) blocks-at 1 q (block z free) P at in
-      ap (λ (k : List ℕ). wordAt 4 k free-word-at) enters
-      ∙ enter-free-word freed q z
-      ∙ past-word (free-heads q z) (puts ps cs) (omega arith, (omega arith, tt))
-      ∙ past-word ps cs past
-
-  module _ (W : Loose with-block) (v : ℕ) (step : Step (end N) (sheet O) (sheet N) (all-stores v))
-      (good : Good (sheet with-block) (end with-block) (all-stores v)) where
+  module _ (W : Loose with-block) (v : ℕ) (step : Step (end N) (sheet O) (sheet N) (all-stores v)) where
     fewer : (u x : ℕ) → count x (N .bins u) ≤ count x (with-block .bins u)
     fewer u x = omega (arith, count-rebin-enter (N .bins) z q u x)
 
@@ -88,10 +78,25 @@ module _ (O : State) (cs : List ℕ) (B : Between O cs) (N : State) (top : N .to
     between : Between N bs
     between = step-between O cs B N (all-stores v) loose-before top ends step
 
-    pub entered-written : putAt 4 (enter (puts ps cs) q z) free-word-at v ≡ write (sheet with-block) cs
-    entered-written =
+    alone : count q (N .bins z) ≡ 0
+    alone = entered-alone N q z W
+
+    stored : bs ≡ putAt 4 freed free-word-at v
+    stored = puts-append ps (free-heads q z ++ (free-word-at, v) ∷ []) cs
+
+    -- the free word is as it was
+    pub entered-word : wordAt 4 (enter (puts ps cs) q z) free-word-at ≡ wordAt 4 cs free-word-at
+    entered-word =
+        let l = in-low (blocks N) blocks-at 1 q (block z free) P at in
+        ap (λ (k : List ℕ). wordAt 4 k free-word-at) enters
+        ∙ enter-free-word N bs between freed v stored q z P at alone big
+        ∙ past-word (free-heads q z) (puts ps cs) (omega arith, (omega arith, tt))
+        ∙ past-word ps cs past
+
+    pub entered-written : Good (sheet with-block) (end with-block) (all-stores v) → putAt 4 (enter (puts ps cs) q z) free-word-at v ≡ write (sheet with-block) cs
+    entered-written good =
         ap (λ (k : List ℕ). putAt 4 k free-word-at v) enters
-        ∙ enter-last N bs between freed v (puts-append ps (free-heads q z ++ (free-word-at, v) ∷ []) cs) q z big
-        ∙ enterBin-bytes N bs between q z P at (entered-alone N q z W) big
+        ∙ enter-last N bs between freed v stored q z P at alone big
+        ∙ enterBin-bytes N loose-before q z P at alone big bs between
         ∙ write-over (sheet with-block) cs bs (length-puts (all-stores v) cs)
         (λ i _ e. good-keeps (sheet with-block) (end with-block) (all-stores v) cs good i e)

@@ -8,16 +8,16 @@ use Prim.Native.Nat.{_*_, _+_, _/_, _<_, _≤_, ℕ}
 use native.Mathlib.Omega.{arith}
 use lib.ListN.{getD, length}
 use Rattle.bins.proofs.Between.{Between, step-between}
-use Rattle.bins.proofs.ChainRead.{Found, found-first, found-pred}
-use Rattle.bins.proofs.LeaveBytes.{bin-before, leave-preds, leave-stores, leaveLater-stores, one-level, passOver-stores}
+use Rattle.bins.proofs.Before.{before, pred-before, sizeBefore}
+use Rattle.bins.proofs.LeaveBytes.{leave-stores, leaveLater-stores, passOver-stores}
+use Rattle.bins.proofs.Led.{Led}
 use Rattle.bins.proofs.LinkRead.{next-in}
 use Rattle.bins.specs.Find.{linkedAt}
-use Rattle.bins.specs.Leave.{leave, leaveLater, passOver, takeOut, usedIn}
+use Rattle.bins.specs.Leave.{leave, leaveLater, takeOut, usedIn}
 use Rattle.bins.specs.declared.chain.Bin.{Bin}
 use Rattle.paper.proofs.bins.Bins.{count-append, count-cons, count-here, count-nil, lastOr}
 use Rattle.paper.proofs.bins.Listed.{Loose, start}
 use Rattle.paper.proofs.bins.Members.{leave-member, split-member}
-use Rattle.paper.proofs.bins.Smallest.{smallest-found}
 use Rattle.paper.proofs.sheet.Phases.{Step, step-keeps}
 use Rattle.paper.proofs.sheet.Stores.{Elsewhere, puts}
 use Rattle.paper.proofs.sheet.Written.{write-over}
@@ -30,7 +30,6 @@ use Rattle.paper.proofs.steps.LinkWords.{Grow, Words, leave-words, out-words}
 use Rattle.paper.specs.Bins.{count, first, rebin, used, leave as leave-list}
 use Rattle.paper.specs.Blocks.{State, end}
 use Rattle.paper.specs.Governed.{height, sheet}
-use Rattle.paper.specs.Granting.{smallestBin}
 use Rattle.paper.specs.Layout.{large, next-at}
 use Rattle.paper.specs.Sheet.{write}
 use Rattle.words.specs.Choice.{if=-no, if=-yes}
@@ -56,15 +55,17 @@ pub left-write : (s : State) (bs : List ℕ) → length bs ≡ end s → (b : �
     → (s' : State) → Loose s' → s' .top ≡ s .top → Grows b (s' .bins) → write (sheet s') cs ≡ write (sheet s') bs
 left-write s bs l b cs L s' W' te G = write-over (sheet s') bs cs (L .now .long ∙ sym l) (λ i m e. L .kept s' W' te G i m e)
 
--- ---- the block p leaves bin z, of which w stands before on the chain
+-- ---- the block p leaves bin z
 module _ (s : State) (bs : List ℕ) (B : Between s bs) (p z : ℕ) (us vs : List ℕ) (big : large ≤ z) (is-in : s .bins z ≡ us ++ p ∷ vs)
-    (y w : ℕ) (preds : (j : ℕ) → 1 ≤ j → j ≤ height (s .top) z → Pred s z j y w)
-    (cs : List ℕ) (made : cs ≡ puts (leave-puts s z (λ j. w) us vs) bs) where
+    (cs : List ℕ) (made : cs ≡ puts (leave-puts s z (before s z) us vs) bs) where
   abbrev stores : List (ℕ × ℕ)
-  stores = leave-puts s z (λ j. w) us vs
+  stores = leave-puts s z (before s z) us vs
+
+  preds : (j : ℕ) → 1 ≤ j → j ≤ height (s .top) z → Pred s z j (sizeBefore s z j) (before s z j)
+  preds j j1 jh = pred-before s j (B .loose) z (omega arith)
 
   step : Step (end s) (sheet s) (sheet (rebinned s z (us ++ vs))) stores
-  step = leave-step s (B .loose) z p us vs is-in big (λ j. y) (λ j. w) preds
+  step = leave-step s (B .loose) z p us vs is-in big (sizeBefore s z) (before s z) preds
 
   -- a byte that a later state does not govern, where that state lists what this one lists but for r
   pub kept-but : (s' : State) → Loose s' → s' .top ≡ s .top → (r : ℕ) → Grow r (rebin (s .bins) z (us ++ vs)) (s' .bins) → (i : ℕ) → i < length bs
@@ -72,7 +73,7 @@ module _ (s : State) (bs : List ℕ) (B : Between s bs) (p z : ℕ) (us vs : Lis
   kept-but s' W' te r G i m e =
       go (out-words s' W' r (rebin (s .bins) z (us ++ vs)) G stores
       (subst (λ (t : ℕ). Words t (rebin (s .bins) z (us ++ vs)) stores) (sym te)
-      (leave-words s (B .loose) z p us vs is-in big (λ j. y) (λ j. w) preds))
+      (leave-words s (B .loose) z p us vs is-in big (sizeBefore s z) (before s z) preds))
       (i / 4 * 4) e)
     where
       go : ((r + 4 ≤ i / 4 * 4) × (i / 4 * 4 < r + 68)) ⊎ Elsewhere (i / 4 * 4) stores
@@ -105,9 +106,6 @@ module _ (s : State) (bs : List ℕ) (B : Between s bs) (p z : ℕ) (big : large
   abbrev m : (us : List ℕ) × (vs : List ℕ) × (s .bins z ≡ us ++ p ∷ vs) × (count p us ≡ 0)
   m = split-member p (s .bins z) listed
 
-  abbrev P : (y : ℕ) × ((j : ℕ) → 1 ≤ j → j ≤ height (s .top) z → Pred s z j y (bin-before s bs B p z big))
-  P = leave-preds s bs B p z big
-
   without : m .0 ++ m .1 ≡ leave-list p (s .bins z)
   without = sym (ap (leave-list p) (m .2) ∙ leave-member p (m .0) (m .1) (m .3))
 
@@ -115,42 +113,31 @@ module _ (s : State) (bs : List ℕ) (B : Between s bs) (p z : ℕ) (big : large
       → (i : ℕ) → i < length bs → sheet s' (i / 4 * 4) ≡ none
       → ((r + 4 ≤ i / 4 * 4) × (i / 4 * 4 < r + 68)) ⊎ (getD (leave bs p) i 0 ≡ getD bs i 0)
   leave-kept-but s' W' te r G =
-      kept-but s bs B p z (m .0) (m .1) big (m .2) (P .0) (bin-before s bs B p z big) (P .1) (leave bs p) (leave-stores s bs B p z big (m .0) (m .1) (m .2))
+      kept-but s bs B p z (m .0) (m .1) big (m .2) (leave bs p) (leave-stores s bs B p z big (m .0) (m .1) (m .2))
       s' W' te r (subst (λ (l : List ℕ). Grow r (rebin (s .bins) z l) (s' .bins)) (sym without) G)
 
   pub leave-left : Left s bs (rebin (s .bins) z (leave-list p (s .bins z))) (leave bs p)
   leave-left =
       subst (λ (l : List ℕ). Left s bs (rebin (s .bins) z l) (leave bs p)) without
-      (member-left s bs B p z (m .0) (m .1) big (m .2) (P .0) (bin-before s bs B p z big) (P .1) (leave bs p)
+      (member-left s bs B p z (m .0) (m .1) big (m .2) (leave bs p)
       (leave-stores s bs B p z big (m .0) (m .1) (m .2)))
 
 -- ---- the block of a bin that is used
-module _ (s : State) (bs : List ℕ) (B : Between s bs) (least : ℕ) (big : large ≤ least) (bin : Bin) (F : Found s least bin)
-    (z : ℕ) (is-z : smallestBin s least ≡ z) (some : z ≢ 0) where
+module _ (s : State) (bs : List ℕ) (B : Between s bs) (z : ℕ) (bin : Bin) (L : Led s z bin) where
   abbrev f : ℕ
   f = first (s .bins z)
 
-  found-z : (least ≤ z) × (f ≢ 0)
-  found-z = subst (λ (k : ℕ). (least ≤ k) × (first (s .bins k) ≢ 0)) is-z (smallest-found s least (λ o. some (sym is-z ∙ o)))
-
-  large-z : large ≤ z
-  large-z = omega (arith, found-z .0)
-
   out-at : (us vs : List ℕ) → s .bins z ≡ us ++ used (s .bins z) ∷ vs → leave-list (used (s .bins z)) (s .bins z) ≡ us ++ vs
-      → takeOut bs bin ≡ puts (leave-puts s z (λ j. bin .before) us vs) bs
+      → takeOut bs bin ≡ puts (leave-puts s z (before s z) us vs) bs
       → Left s bs (rebin (s .bins) z (leave-list (used (s .bins z)) (s .bins z))) (takeOut bs bin)
   out-at us vs c d m =
       subst (λ (l : List ℕ). Left s bs (rebin (s .bins) z l) (takeOut bs bin)) (sym d)
-      (member-left s bs B (used (s .bins z)) z us vs large-z c (F .y) (bin .before)
-      (one-level s z (F .y) (bin .before) (B .layout-1) (found-pred s (B .loose) least big bin F z is-z some)) (takeOut bs bin) m)
+      (member-left s bs B (used (s .bins z)) z us vs (L .big) c (takeOut bs bin) m)
 
   -- the bin is f and then xs
   module _ (xs : List ℕ) (is-in : s .bins z ≡ f ∷ xs) where
-    first-is : bin .first ≡ f
-    first-is = found-first s (B .loose) least big bin F z is-z
-
     next-is : linkedAt bs (bin .first) next-at ≡ first xs
-    next-is = ap (λ (k : ℕ). linkedAt bs k next-at) first-is ∙ next-in s bs B f z [] xs large-z is-in
+    next-is = ap (λ (k : ℕ). linkedAt bs k next-at) (L .leads) ∙ next-in s bs B f z [] xs (L .big) is-in
 
     out : (ws : List ℕ) → xs ≡ ws
         → (usedIn bs bin ≡ used (s .bins z)) × Left s bs (rebin (s .bins) z (leave-list (used (s .bins z)) (s .bins z))) (takeOut bs bin)
@@ -159,9 +146,9 @@ module _ (s : State) (bs : List ℕ) (B : Between s bs) (least : ℕ) (big : lar
         let c : s .bins z ≡ f ∷ [] = is-in ∙ ap (λ (k : List ℕ). f ∷ k) e in
         let u : used (s .bins z) ≡ f = ap used c in
         let n : linkedAt bs (bin .first) next-at ≡ 0 = next-is ∙ ap first e in (
-          if=-yes _ 0 _ _ n ∙ first-is ∙ sym u,
+          if=-yes _ 0 _ _ n ∙ L .leads ∙ sym u,
           out-at [] [] (c ∙ ap (λ (k : ℕ). k ∷ []) (sym u)) ((λ i. leave-list (used (c i)) (c i)) ∙ leave-member f [] [] (count-nil f))
-              (if=-yes _ 0 _ _ n ∙ ap (passOver bs (bin .before)) first-is ∙ passOver-stores s bs B f z large-z [] c (bin .before)),
+              (if=-yes _ 0 _ _ n ∙ passOver-stores s bs B f z (L .big) [] c bin L),
         )
     out (x ∷ ws) e =
         let c : s .bins z ≡ f ∷ x ∷ ws = is-in ∙ ap (λ (k : List ℕ). f ∷ k) e in
@@ -172,12 +159,12 @@ module _ (s : State) (bs : List ℕ) (B : Between s bs) (least : ℕ) (big : lar
         let d : count x (f ∷ []) ≡ 0 = omega (arith, B .loose .once z x, ap (count x) c, count-append x (f ∷ []) (x ∷ ws), count-here x ws) in (
           if=-no _ 0 _ _ n0 ∙ n ∙ sym u,
           out-at (f ∷ []) ws (c ∙ ap (λ (k : ℕ). f ∷ k ∷ ws) (sym u)) ((λ i. leave-list (used (c i)) (c i)) ∙ leave-member x (f ∷ []) ws d)
-              (if=-no _ 0 _ _ n0 ∙ (λ i. leaveLater bs (first-is i) (n i)) ∙ leaveLater-stores s bs B x z large-z f [] ws c ws refl),
+              (if=-no _ 0 _ _ n0 ∙ (λ i. leaveLater bs (L .leads i) (n i)) ∙ leaveLater-stores s bs B x z (L .big) f [] ws c ws refl),
         )
 
   -- it is the paper's, and it has left
   pub used-is : usedIn bs bin ≡ used (s .bins z)
-  used-is = let c = split-first (s .bins z) f refl (found-z .1) in out (c .0) (c .1) (c .0) refl .0
+  used-is = let c = split-first (s .bins z) f refl (λ o. L .some (L .leads ∙ o)) in out (c .0) (c .1) (c .0) refl .0
 
   pub take-out-left : Left s bs (rebin (s .bins) z (leave-list (used (s .bins z)) (s .bins z))) (takeOut bs bin)
-  take-out-left = let c = split-first (s .bins z) f refl (found-z .1) in out (c .0) (c .1) (c .0) refl .1
+  take-out-left = let c = split-first (s .bins z) f refl (λ o. L .some (L .leads ∙ o)) in out (c .0) (c .1) (c .0) refl .1

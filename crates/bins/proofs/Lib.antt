@@ -1,7 +1,13 @@
+pub mod Descent
 pub mod Finding
+pub mod KeptWords
 pub mod Between
 pub mod LinkRead
-pub mod ChainRead
+pub mod Before
+pub mod Index
+pub mod Found
+pub mod Led
+pub mod Reheading
 pub mod LeaveBytes
 pub mod Left
 pub mod Restored

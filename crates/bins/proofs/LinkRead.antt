@@ -1,26 +1,29 @@
--- What the model reads of a block in a pool between two steps: its size, and where its links and its chain word lead.
+-- What the model reads of a block in a pool between two steps: its size, where its links lead, and each of its index words.
 use mathlib.Core.List.{List, _++_, _∷_}
 use mathlib.Core.Logic.{_≢_, _⊎_, inl, inr}
 use mathlib.Core.Option.{some}
-use mathlib.Core.Path.{_∙_, _≡_, ap, subst, sym}
+use mathlib.Core.Path.{_∙_, _≡_, ap, refl, subst, sym}
 use Prim.Native.Nat.{_+_, _≤_, ℕ}
 use native.Mathlib.Omega.{arith}
 use Rattle.bins.specs.Find.{linkedAt, sizeAt}
 use Rattle.bins.proofs.Between.{Between, head-read}
+use Rattle.levels.specs.Levels.{topOf, wordOf}
 use Rattle.heads.specs.Heads.{headOf}
 use Rattle.heads.specs.declared.head.Head.{Head}
 use Rattle.paper.proofs.reads.HeadWords.{head-of-word}
 use Rattle.heads.specs.Links.{followed, linkWord}
-use Rattle.paper.proofs.bins.Bins.{count-append, count-here, first-count, lastOr, next-mem, next-p, prev-mem, prev-p, prev-some}
+use Rattle.paper.proofs.bins.Bins.{count-append, count-here, lastOr, next-mem, next-p, prev-mem, prev-p, prev-some}
 use Rattle.paper.proofs.bins.Distances.{followed-linkWord}
 use Rattle.paper.proofs.bins.Listed.{Loose, start}
-use Rattle.paper.proofs.reads.LooseReads.{above-some, bin-unique, false-reads, following-reads, height-pos, index-reads, previous-reads, reach-in}
+use Rattle.paper.proofs.reads.LooseReads.{above-some, bin-unique, false-reads, following-reads, index-reads, previous-reads, reach-in, word-reads}
 use Rattle.paper.proofs.runs.Walk.{In, in-flag}
+use Rattle.paper.proofs.sheet.Fields.{false-level}
+use Rattle.paper.proofs.steps.First.{OnLevel}
 use Rattle.paper.specs.Bins.{count, first, nextIn, prevIn}
 use Rattle.paper.specs.Blocks.{Kind, State, block, blocks, end, free}
 use Rattle.paper.specs.Governed.{above}
-use Rattle.paper.specs.Layout.{blocks-at, chain-at, false-block, large, next-at, previous-at}
-use Rattle.words.specs.Choice.{by=}
+use Rattle.paper.specs.Layout.{blocks-at, false-block, large, level-at, levels, next-at, previous-at}
+use Rattle.words.specs.Choice.{by=, if=, if=-no, if=-yes}
 use Rattle.words.specs.Words.{wordAt}
 
 some-inj : (a b : ℕ) → some a ≡ some b → a ≡ b
@@ -76,28 +79,40 @@ module _ (s : State) (bs : List ℕ) (B : Between s bs) where
         apart k (inr o) = λ f. omega (arith, o .1 f, W .once z q)
 
   -- what the index leads to is in the pool, past the false block, and in a larger bin
-  above-near : (y : ℕ) → (above (s .top) (end s) (s .bins) 1 y ≤ 65536) × (above (s .top) (end s) (s .bins) 1 y ≢ false-block)
-  above-near y =
-      by= (above (s .top) (end s) (s .bins) 1 y) 0 (λ e. (omega arith, omega arith))
-      (λ n. let m = above-some s W 1 y n in
-      let st = start s W (m .0) _ (reach-in s W 1 (m .0) _ (m .2) n .2) in (omega (arith, B .fits), omega arith))
+  module _ (j y : ℕ) where
+    abbrev next : ℕ
+    next = above (s .top) (end s) (s .bins) j y
 
-  pub chain-read : (q z : ℕ) → large ≤ z → first (s .bins z) ≡ q → q ≢ 0 → linkedAt bs q chain-at ≡ above (s .top) (end s) (s .bins) 1 z
-  chain-read q z big e n =
-      let i : 1 ≤ count q (s .bins z) = first-count (s .bins z) q e n in
-      followed-in q (above (s .top) (end s) (s .bins) 1 z) chain-at (near q z big i) (above-near z .0) (apart i)
-      (index-reads bs s W (B .fits) (B .long) (B .holds) q z big i e 1 (omega arith) (height-pos s W z))
+    above-near : (next ≤ 65536) × (next ≢ false-block)
+    above-near =
+        by= next 0 (λ e. (omega arith, omega arith))
+        (λ n. let m = above-some s W j y n in
+        let st = start s W (m .0) _ (reach-in s W j (m .0) _ (m .2) n .2) in (omega (arith, B .fits), omega arith))
+
+    pub index-read : (w : ℕ) → OnLevel s j y w → 1 ≤ j → j ≤ s .top → linkedAt bs w (wordOf j) ≡ next
+    index-read w (inl b) j1 jt =
+        rw (b .1) (followed-in false-block next (wordOf j) (omega arith) (above-near .0) (above-near .1)
+        (false-reads bs s W (B .fits) (B .long) (B .holds) j j1 jt ∙ ap (λ (k : ℕ). linkWord false-block (above (s .top) (end s) (s .bins) j k)) (sym (b .0))))
+    index-read w (inr b) j1 jt =
+        let r = reach-in s W j y w (b .0) (b .1) in
+        followed-in w next (wordOf j) (near w y (b .2) (r .2)) (above-near .0) (apart (r .2))
+        (index-reads bs s W (B .fits) (B .long) (B .holds) w y (b .2) (r .2) (r .0) j j1 (r .1))
+      where
+        apart : 1 ≤ count w (s .bins y) → next ≢ w
+        apart i k =
+            let m = above-some s W j y (λ o. b .1 (sym k ∙ o)) in
+            let u : m .0 ≡ y = bin-unique s W w (m .0) y (reach-in s W j (m .0) w (m .2 ∙ k) (b .1) .2) i in
+            omega (arith, m .1)
+
+  pub top-read : topOf bs ≡ s .top
+  unfolding topOf
+  top-read =
+      go (B .layout)
+      (word-reads bs s W (B .fits) (B .long) (B .holds) (false-block + level-at) (s .top) refl (omega arith) (omega (arith, W .top13)) (false-level s))
     where
-      apart : 1 ≤ count q (s .bins z) → above (s .top) (end s) (s .bins) 1 z ≢ q
-      apart i k =
-          let m = above-some s W 1 z (λ o. n (sym k ∙ o)) in
-          let b : m .0 ≡ z = bin-unique s W q (m .0) z (reach-in s W 1 (m .0) q (m .2 ∙ k) n .2) i in
-          omega (arith, m .1)
-
-  pub false-chain-read : linkedAt bs false-block chain-at ≡ above (s .top) (end s) (s .bins) 1 64
-  false-chain-read =
-      followed-in false-block (above (s .top) (end s) (s .bins) 1 64) chain-at (omega arith) (above-near 64 .0) (above-near 64 .1)
-      (false-reads bs s W (B .fits) (B .long) (B .holds) 1 (omega arith) (W .top1))
+      go : (s .top ≡ 1) ⊎ (s .top ≡ 13) → wordAt 4 bs (false-block + level-at) ≡ s .top → if= (wordAt 4 bs (false-block + level-at)) levels levels 1 ≡ s .top
+      go (inl t) e = if=-no (wordAt 4 bs (false-block + level-at)) levels _ _ (omega arith) ∙ sym t
+      go (inr t) e = if=-yes (wordAt 4 bs (false-block + level-at)) levels _ _ (omega arith) ∙ sym t
 
   -- the neighbours in us ++ q ∷ vs
   module _ (q z : ℕ) (us vs : List ℕ) (big : large ≤ z) (is-in : s .bins z ≡ us ++ q ∷ vs) where

@@ -4,11 +4,14 @@ use mathlib.Core.Path.{_≡_}
 use Prim.Native.Nat.{ℕ, _+_}
 use Rattle.words.specs.Choice.{if=}
 use Rattle.words.specs.Sums.{minus}
-use Rattle.words.specs.Words.{wordAt, putAt}
-use Rattle.heads.specs.Links.{linkWord}
-use Rattle.paper.specs.Layout.{previous-at, next-at, level-at, chain-at}
+use Rattle.words.specs.Words.{putAt}
+use Rattle.levels.specs.Levels.{topOf, wordOf}
+use Rattle.paper.specs.Governed.{height}
+use Rattle.paper.specs.Layout.{previous-at, next-at, level-at}
 use Rattle.bins.specs.declared.chain.Bin.{Bin}
-use Rattle.bins.specs.Find.{sizeAt, linkedAt, find}
+use Rattle.bins.specs.Find.{sizeAt, linkedAt, exact}
+use Rattle.bins.specs.Head.{rehead}
+use Rattle.bins.specs.Keep.{wordsAt, putWords}
 
 unfoldable pub leaveLater : List ℕ → ℕ → ℕ → List ℕ
 leaveLater bs previous q =
@@ -17,19 +20,20 @@ leaveLater bs previous q =
     (putAt 4 (putAt 4 bs (previous + next-at) (minus (linkedAt bs q next-at) previous))
     (linkedAt bs q next-at + previous-at) (minus previous (linkedAt bs q next-at)))
 
-unfoldable pub passOver : List ℕ → ℕ → ℕ → List ℕ
-passOver bs before q = putAt 4 bs (before + chain-at) (linkWord before (linkedAt bs q chain-at))
+-- the only block of a bin, which is looked for once more where it was found below its highest level
+unfoldable pub passOver : List ℕ → Bin → List ℕ
+passOver bs bin =
+    if= (bin .level) (height (topOf bs) (bin .size))
+    (rehead bs bin (bin .size) (bin .first) 0)
+    (rehead bs (exact bs (bin .size)) (bin .size) (bin .first) 0)
 
--- the second takes over the level word and the chain word
-unfoldable pub headBin : List ℕ → ℕ → ℕ → ℕ → List ℕ
-headBin bs before second q =
-    putAt 4
-    (putAt 4 (putAt 4 (putAt 4 bs (second + previous-at) 0) (second + level-at) 1) (second + chain-at) (linkWord second (linkedAt bs q chain-at)))
-    (before + chain-at) (linkWord before second)
-
-unfoldable pub leaveFirst : List ℕ → ℕ → ℕ → List ℕ
-leaveFirst bs before q =
-    if= (linkedAt bs q next-at) 0 (passOver bs before q) (headBin bs before (linkedAt bs q next-at) q)
+-- the second takes over level word and index words
+unfoldable pub leaveFirst : List ℕ → Bin → ℕ → ℕ → List ℕ
+leaveFirst bs bin size q =
+    let second = linkedAt bs q next-at in
+    if= second 0
+    (rehead bs bin size q 0)
+    (rehead (putAt 4 (putAt 4 bs (second + previous-at) 0) (second + level-at) (bin .level)) bin size q second)
 
 -- the second block of a bin, or else the first
 unfoldable pub usedIn : List ℕ → Bin → ℕ
@@ -38,7 +42,7 @@ usedIn bs bin = if= (linkedAt bs (bin .first) next-at) 0 (bin .first) (linkedAt 
 unfoldable pub takeOut : List ℕ → Bin → List ℕ
 takeOut bs bin =
     if= (linkedAt bs (bin .first) next-at) 0
-    (passOver bs (bin .before) (bin .first))
+    (passOver bs bin)
     (leaveLater bs (bin .first) (linkedAt bs (bin .first) next-at))
 
 -- which block was taken out, and the bytes afterwards
@@ -49,17 +53,13 @@ pub record TakenOut (bs : List ℕ) (bin : Bin) (q : ℕ) (cs : List ℕ) : Type
 unfoldable pub leave : List ℕ → ℕ → List ℕ
 leave bs q =
     if= (linkedAt bs q previous-at) 0
-    (leaveFirst bs (find bs (sizeAt bs q) .before) q)
+    (leaveFirst bs (exact bs (sizeAt bs q)) (sizeAt bs q) q)
     (leaveLater bs (linkedAt bs q previous-at) q)
 
--- the words of the block r as they stand in old
-unfoldable pub restored : List ℕ → List ℕ → ℕ → List ℕ
-restored old bs r =
-    putAt 4
-    (putAt 4
-    (putAt 4 (putAt 4 bs (r + previous-at) (wordAt 4 old (r + previous-at))) (r + next-at) (wordAt 4 old (r + next-at)))
-    (r + level-at) (wordAt 4 old (r + level-at)))
-    (r + chain-at) (wordAt 4 old (r + chain-at))
+-- the links, the level word and the h lowest index words of the block r as they stand in old
+unfoldable pub restored : List ℕ → List ℕ → ℕ → ℕ → List ℕ
+restored old bs r h =
+    putWords (putWords bs r previous-at (wordsAt old r previous-at 3)) r (wordOf h) (wordsAt old r (wordOf h) h)
 
 unfoldable pub leaveBoth : List ℕ → ℕ → ℕ → List ℕ
-leaveBoth bs below above = restored bs (leave (leave bs below) above) above
+leaveBoth bs below above = restored bs (leave (leave bs below) above) above (height (topOf bs) (sizeAt bs above))

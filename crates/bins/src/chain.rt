@@ -1,6 +1,6 @@
-// Along the chain, to the bin of a size.
+// Along the levels of the index, to the bin of a size.
 ghost use mathlib.Core.Path.{_≡_};
-ghost use Rattle.bins.specs.Find.{sizeAt, linkedAt, findFrom as find-from, find as find-of, findOn, none as none-in, size as size-in};
+ghost use Rattle.bins.specs.Find.{sizeAt, linkedAt, along as along-of, down as down-of, search as search-of, exact as exact-of, findOn, empty as empty-in, none as none-in, size as size-in};
 use paper::CHAIN;
 use paper::FALSE_BLOCK;
 
@@ -18,26 +18,30 @@ pub fn linked(pool: &[u8], q: u32, offset: u32) -> u32
     heads::follow(q, words::field(pool, q, offset))
 }
 
-// A bin that was found: what stands before it on the chain, its first block, and its size. Where there is none, the last two
-// are 0. Other crates pass it on, and ask whether there is one and its size.
+// What was found for a size on a level of the index: the last block there that is smaller, the next one, and the size of that. Where there is
+// no next one, the last two are 0. Other crates pass it on, and ask whether there is one and its size.
 pub struct Bin {
+    pub(crate) level: u32,
     pub(crate) before: u32,
     pub(crate) first: u32,
     pub(crate) size: u32,
 }
 
-// From the block `from` along one level's links, which stand at `index` in each first block: the last bin that is
-// smaller than `least`, and the next. In a sound pool the sizes rise; where they do not, the walk ends.
-pub fn find_from(pool: &[u8], index: u32, from: u32, least: u32) -> Bin
-    ensures { λ r. ⌜ r ≡ find-from (now (pool .entry)) index from least ⌝ }
+// Along one level, from where the one above was left: up to the last bin that is smaller than `least`. What came next there comes next here
+// too, unless another bin stands before it. In a sound pool the sizes rise; where they do not, the walk ends.
+pub fn along(pool: &[u8], level: u32, bin: Bin, least: u32) -> Bin
+    ensures { λ r. ⌜ r ≡ along-of (now (pool .entry)) level bin least ⌝ }
 {
-    let mut before = from;
+    let index = levels::word(level);
+    let stop = bin.first;
+    let mut before = bin.before;
     let mut below: u32 = 0;
-    let mut first = linked(pool, from, index);
-    while first != 0 {
+    let mut first = linked(pool, before, index);
+    while first != stop {
         let size = size_of(pool, first);
         if least <= size {
             return Bin {
+                level,
                 before,
                 first,
                 size,
@@ -45,6 +49,7 @@ pub fn find_from(pool: &[u8], index: u32, from: u32, least: u32) -> Bin
         }
         if size <= below {
             return Bin {
+                level,
                 before,
                 first: 0,
                 size: 0,
@@ -55,24 +60,76 @@ pub fn find_from(pool: &[u8], index: u32, from: u32, least: u32) -> Bin
         first = linked(pool, first, index);
     }
     Bin {
+        level,
         before,
-        first: 0,
-        size: 0,
+        first: stop,
+        size: bin.size,
     }
 }
 
-// The smallest bin of at least that size.
-pub fn find(pool: &[u8], least: u32) -> Bin
-    ensures { λ r. ⌜ r ≡ find-of (now (pool .entry)) least ⌝ }
+// The same level by level, down to the level `to`.
+fn down(pool: &[u8], bin: Bin, to: u32, least: u32) -> Bin
+    ensures { λ r. ⌜ r ≡ down-of (now (pool .entry)) bin to least ⌝ }
 {
-    find_from(pool, CHAIN, FALSE_BLOCK, least)
+    let mut level = bin.level;
+    let mut at = bin;
+    while to < level {
+        level -= 1;
+        at = along(pool, level, at, least);
+    }
+    at
 }
 
-// The same, where `bin` was found for a smaller size: the way up to it is not walked again.
+// From the block `before`, which stands on a level, down to the level `to`.
+fn search(pool: &[u8], level: u32, before: u32, to: u32, least: u32) -> Bin
+    ensures { λ r. ⌜ r ≡ search-of (now (pool .entry)) level before to least ⌝ }
+{
+    let at = along(
+        pool,
+        level,
+        Bin {
+            level,
+            before,
+            first: 0,
+            size: 0,
+        },
+        least,
+    );
+    down(pool, at, to, least)
+}
+
+// The bin of a size, or where it would stand, on the highest level that it reaches.
+pub fn exact(pool: &[u8], size: u32) -> Bin
+    ensures { λ r. ⌜ r ≡ exact-of (now (pool .entry)) size ⌝ }
+{
+    let top = levels::top(pool);
+    search(
+        pool,
+        levels::start(top, size),
+        FALSE_BLOCK,
+        levels::height(top, size),
+        size,
+    )
+}
+
+// The smallest bin of at least a size, where `bin` was found for a smaller one: the way up to that is not walked again.
 pub fn find_on(pool: &[u8], bin: Bin, least: u32) -> Bin
     ensures { λ r. ⌜ r ≡ findOn (now (pool .entry)) bin least ⌝ }
 {
-    find_from(pool, CHAIN, bin.before, least)
+    let level = bin.level;
+    if level == 1 {
+        if bin.first == 0 {
+            return bin;
+        }
+    }
+    search(pool, level, bin.before, 1, least)
+}
+
+// There is no bin: on the lowest level nothing comes past the false block.
+pub fn empty(pool: &[u8]) -> bool
+    ensures { λ r. ⌜ r ≡ empty-in (now (pool .entry)) ⌝ }
+{
+    linked(pool, FALSE_BLOCK, CHAIN) == 0
 }
 
 // No bin was found.

@@ -1,9 +1,10 @@
 // A run of bytes becomes a free large block, which enters its bin: second place, or first where the bin was empty.
 ghost use mathlib.Core.Path.{_≡_};
 ghost use Rattle.bins.specs.Enter.{makeFree, enterSecond, enterOnly, enterBin, enter as enter-of};
-use crate::chain::find;
+use crate::chain::Bin;
+use crate::chain::exact;
 use crate::chain::linked;
-use paper::CHAIN;
+use crate::heading::rehead;
 use paper::LEVEL;
 use paper::NEXT;
 use paper::PREVIOUS;
@@ -35,31 +36,26 @@ fn enter_second(pool: &mut [u8], first: u32, q: u32)
     words::put_field(pool, next, PREVIOUS, on.home);
 }
 
-// The block q becomes the only one of its bin, between `before` and `after` on the chain.
-fn enter_only(pool: &mut [u8], before: u32, after: u32, q: u32)
-    ensures { λ _. ⌜ now (pool .exit) ≡ enterOnly (now (pool .entry)) before after q ⌝ }
+// The block q becomes the only one of its bin, whose place is known on its highest level.
+fn enter_only(pool: &mut [u8], bin: Bin, size: u32, q: u32)
+    ensures { λ _. ⌜ now (pool .exit) ≡ enterOnly (now (pool .entry)) bin size q ⌝ }
 {
     words::put_field(pool, q, PREVIOUS, 0);
     words::put_field(pool, q, NEXT, 0);
-    words::put_field(pool, q, LEVEL, 1);
-    words::put_field(pool, q, CHAIN, heads::link_word(q, after));
-    words::put_field(pool, before, CHAIN, heads::link_word(before, q));
+    words::put_field(pool, q, LEVEL, bin.level);
+    rehead(pool, bin, size, 0, q);
 }
 
 // The free block q enters the bin of its size.
 fn enter_bin(pool: &mut [u8], q: u32, size: u32)
     ensures { λ _. ⌜ now (pool .exit) ≡ enterBin (now (pool .entry)) q size ⌝ }
 {
-    let bin = find(pool, size);
-    if bin.first == 0 {
-        enter_only(pool, bin.before, 0, q);
-        return;
-    }
+    let bin = exact(pool, size);
     if bin.size == size {
         enter_second(pool, bin.first, q);
         return;
     }
-    enter_only(pool, bin.before, bin.first, q);
+    enter_only(pool, bin, size, q);
 }
 
 // The bytes from q on are a free block of that size, which enters its bin.

@@ -1,11 +1,13 @@
 // Free large blocks leave their bins.
 ghost use mathlib.Core.Path.{_≡_};
-ghost use Rattle.bins.specs.Leave.{leaveLater, passOver, headBin, leaveFirst, TakenOut, leave as leave-of, leaveBoth};
+ghost use Rattle.bins.specs.Leave.{leaveLater, passOver, leaveFirst, TakenOut, leave as leave-of, leaveBoth};
 use crate::chain::Bin;
-use crate::chain::find;
+use crate::chain::exact;
 use crate::chain::linked;
 use crate::chain::size_of;
-use paper::CHAIN;
+use crate::heading::rehead;
+use crate::keeping::keep;
+use crate::keeping::put_back;
 use paper::LEVEL;
 use paper::NEXT;
 use paper::PREVIOUS;
@@ -24,35 +26,32 @@ fn leave_later(pool: &mut [u8], previous: u32, q: u32)
     words::put_field(pool, next, PREVIOUS, link.home);
 }
 
-// The only block q of its bin, which stands after `before` on the chain: the chain passes over the bin.
-fn pass_over(pool: &mut [u8], before: u32, q: u32)
-    ensures { λ _. ⌜ now (pool .exit) ≡ passOver (now (pool .entry)) before q ⌝ }
+// The only block of a bin: the index passes over it. A bin that was found below its highest level is looked for once more.
+fn pass_over(pool: &mut [u8], bin: Bin)
+    ensures { λ _. ⌜ now (pool .exit) ≡ passOver (now (pool .entry)) bin ⌝ }
 {
-    let after = linked(pool, q, CHAIN);
-    words::put_field(pool, before, CHAIN, heads::link_word(before, after));
+    let first = bin.first;
+    let size = bin.size;
+    if bin.level == levels::height(levels::top(pool), size) {
+        rehead(pool, bin, size, first, 0);
+        return;
+    }
+    let again = exact(pool, size);
+    rehead(pool, again, size, first, 0);
 }
 
-// The first block q of its bin, which stands after `before` on the chain: the second becomes first.
-fn head_bin(pool: &mut [u8], before: u32, second: u32, q: u32)
-    ensures { λ _. ⌜ now (pool .exit) ≡ headBin (now (pool .entry)) before second q ⌝ }
-{
-    let after = linked(pool, q, CHAIN);
-    words::put_field(pool, second, PREVIOUS, 0);
-    words::put_field(pool, second, LEVEL, 1);
-    words::put_field(pool, second, CHAIN, heads::link_word(second, after));
-    words::put_field(pool, before, CHAIN, heads::link_word(before, second));
-}
-
-// The first block q, with a second behind it or without.
-fn leave_first(pool: &mut [u8], before: u32, q: u32)
-    ensures { λ _. ⌜ now (pool .exit) ≡ leaveFirst (now (pool .entry)) before q ⌝ }
+// The first block q of a bin, found on its highest level: the second becomes first, with a level word of its own, or the index passes over.
+fn leave_first(pool: &mut [u8], bin: Bin, size: u32, q: u32)
+    ensures { λ _. ⌜ now (pool .exit) ≡ leaveFirst (now (pool .entry)) bin size q ⌝ }
 {
     let second = linked(pool, q, NEXT);
     if second == 0 {
-        pass_over(pool, before, q);
+        rehead(pool, bin, size, q, 0);
         return;
     }
-    head_bin(pool, before, second, q);
+    words::put_field(pool, second, PREVIOUS, 0);
+    words::put_field(pool, second, LEVEL, bin.level);
+    rehead(pool, bin, size, q, second);
 }
 
 // The block of a bin that is used, the second where there is one, else the first.
@@ -62,7 +61,7 @@ pub fn take_out(pool: &mut [u8], bin: Bin) -> u32
     let first = bin.first;
     let second = linked(pool, first, NEXT);
     if second == 0 {
-        pass_over(pool, bin.before, first);
+        pass_over(pool, bin);
         return first;
     }
     leave_later(pool, first, second);
@@ -78,23 +77,24 @@ pub fn leave(pool: &mut [u8], q: u32)
         leave_later(pool, previous, q);
         return;
     }
-    let bin = find(pool, size_of(pool, q));
-    leave_first(pool, bin.before, q);
+    let size = size_of(pool, q);
+    let bin = exact(pool, size);
+    leave_first(pool, bin, size, q);
 }
 
-// Two blocks, of which the second is to keep its bytes. They may stand next to each other in one list, or head neighbouring
-// bins, and then the first to leave stores into the second: its words are kept, and put back.
+// Two blocks, of which the second is to keep its bytes. They may stand next to each other in one list, or before one another in the index,
+// and then the first to leave stores into the second: its words are kept, and put back. An index word past its height is never stored to.
 pub fn leave_both(pool: &mut [u8], below: u32, above: u32)
     ensures { λ _. ⌜ now (pool .exit) ≡ leaveBoth (now (pool .entry)) below above ⌝ }
 {
-    let previous = words::field(pool, above, PREVIOUS);
-    let next = words::field(pool, above, NEXT);
-    let level = words::field(pool, above, LEVEL);
-    let chain = words::field(pool, above, CHAIN);
+    let height = levels::height(levels::top(pool), size_of(pool, above));
+    let index = levels::word(height);
+    let mut links: [u32; 3] = [0; 3];
+    let mut index_words: [u32; 13] = [0; 13];
+    keep(pool, above, PREVIOUS, &mut links);
+    keep(pool, above, index, &mut index_words[..height as usize]);
     leave(pool, below);
     leave(pool, above);
-    words::put_field(pool, above, PREVIOUS, previous);
-    words::put_field(pool, above, NEXT, next);
-    words::put_field(pool, above, LEVEL, level);
-    words::put_field(pool, above, CHAIN, chain);
+    put_back(pool, above, PREVIOUS, &links);
+    put_back(pool, above, index, &index_words[..height as usize]);
 }

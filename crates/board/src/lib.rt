@@ -13,12 +13,12 @@ ghost use Rattle.pool.specs.Calls as call;
 ghost use Rattle.board.specs.Heard as board;
 ghost use Rattle.board.specs.Heard.{halves, heard, left, leaves};
 
-// Lays the buffer out as a fresh pool; answers its length.
+// Lays the buffer out as a fresh pool, in layout 1 or 2; answers its length.
 #[no_mangle]
-pub extern "C" fn pool_lay_out(pool: &mut [u8]) -> u64
-    ensures { λ r. ⌜ leaves (call.layOut (now (pool .entry))) ≡ left (halves r) (now (pool .exit)) ⌝ }
+pub extern "C" fn pool_lay_out(pool: &mut [u8], layout: u32) -> u64
+    ensures { λ r. ⌜ leaves (call.layOut (now (pool .entry)) layout) ≡ left (halves r) (now (pool .exit)) ⌝ }
 {
-    halves::of(pool::lay_out(pool))
+    halves::of(pool::lay_out(pool, layout))
 }
 
 // Whether the pool is sound; answers its length.

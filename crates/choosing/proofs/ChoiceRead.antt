@@ -7,8 +7,10 @@ use mathlib.Core.Path.{_∙_, _≡_, ap, refl, subst, sym}
 use Prim.Native.Nat.{_%_, _+_, _<_, _≤_, ℕ}
 use native.Mathlib.Omega.{arith}
 use Rattle.bins.proofs.Between.{Between, stands-between}
-use Rattle.bins.proofs.ChainRead.{Found, find-found, find-on-found, found-none, found-size, found-some}
-use Rattle.bins.specs.Find.{find, findOn, none, size}
+use Rattle.bins.proofs.Found.{Found, exact-found, find-on-found}
+use Rattle.bins.proofs.Index.{between-index}
+use Rattle.bins.proofs.Led.{Led, empty-none, exact-led, found-empty, found-none, found-size, found-some}
+use Rattle.bins.specs.Find.{empty, exact, findOn, none, size}
 use Rattle.bins.specs.declared.chain.Bin.{Bin}
 use Rattle.choosing.proofs.RestRead.{rest-read, restIs}
 use Rattle.choosing.specs.Choosing.{chooseLarger, highEnd, lowEnd, choose as choose-model, chooseLarge as chooseLarge-model, chooseSmall as chooseSmall-model}
@@ -16,14 +18,17 @@ use Rattle.choosing.specs.declared.Choice.{Choice}
 use Rattle.choosing.specs.declared.Choice.the-variants.{ExactBin, FirstOfBin, HighEnd, LargerBin, LowEnd, Refusal}
 use Rattle.choosing.specs.declared.remainder.Rest.{Rest}
 use Rattle.heads.specs.Heads.{blockSize}
-use Rattle.paper.proofs.bins.Smallest.{no-bin-past, none-smallest, smallest-exact, smallest-found, smallest-none}
+use Rattle.paper.proofs.bins.Smallest.{no-bin-past, smallest-found, smallest-none}
 use Rattle.paper.proofs.keeps.TakeKeeps.{blockSize-eights, blockSize-least}
 use Rattle.paper.proofs.reads.HeaderReads.{bin-read, end-near}
+use Rattle.paper.proofs.reads.LooseReads.{height-pos}
 use Rattle.paper.proofs.reads.Stands.{Stands}
+use Rattle.paper.proofs.sheet.Fields.{height-le}
 use Rattle.paper.proofs.steps.EnterStep.{split-first}
 use Rattle.paper.specs.Answers.{no-room, no-size}
 use Rattle.paper.specs.Bins.{first}
 use Rattle.paper.specs.Blocks.{State}
+use Rattle.paper.specs.Governed.{height}
 use Rattle.paper.specs.Granting.{choose, chooseLarge, chooseSmall, exact-bin, first-of-bin, high-end, ifRoom, larger-bin, low-end, refusal, smallestBin, Choice as PaperChoice}
 use Rattle.paper.specs.Layout.{large, small-bins}
 use Rattle.words.specs.Choice.{by<, by=, if<, if<-no, if<-yes, if=, if=-no, if=-yes, when, when-no, when-yes}
@@ -43,8 +48,8 @@ said (Refusal k) = refusal k
 abbrev pub Carries : State → Choice → Type 0
 Carries s (FirstOfBin q b) = (8 ≤ b) × (b % 8 ≡ 0) × (b < large) × (l : List ℕ) × (s .bins b ≡ q ∷ l)
 Carries s (HighEnd rest b) = (8 ≤ b) × (b % 8 ≡ 0) × (b < large) × (rest ≡ restIs s) × (b + 8 ≤ s .rest)
-Carries s (ExactBin bin b) = (b % 8 ≡ 0) × (large ≤ b) × Found s b bin × (smallestBin s b ≡ b)
-Carries s (LargerBin bin b) = (b % 8 ≡ 0) × (large ≤ b) × Found s (b + large) bin × (smallestBin s (b + large) ≢ 0)
+Carries s (ExactBin bin b) = (b % 8 ≡ 0) × (large ≤ b) × Led s b bin
+Carries s (LargerBin bin b) = (b % 8 ≡ 0) × (large ≤ b) × (b + large ≤ size bin) × Led s (size bin) bin
 Carries s (LowEnd rest b) = (b % 8 ≡ 0) × (large ≤ b) × (rest ≡ restIs s) × (b + 8 ≤ s .rest)
 Carries s (Refusal k) = Unit {0}
 
@@ -105,46 +110,53 @@ module _ (s : State) (bs : List ℕ) (S : Stands s bs) (b : ℕ) (eights : b % 8
     abbrev larger-way : PaperChoice
     larger-way = if= (smallestBin s (b + large)) 0 (ifRoom s b (low-end b)) (larger-bin (smallestBin s (b + large)) b)
 
-    larger-at : (bin : Bin) → Found s (b + large) bin → Reads s (when (none bin) (lowEnd bs b) (LargerBin bin b)) larger-way
+    larger-at : (bin : Bin) → Found s 1 (b + large) 0 bin → Reads s (when (none bin) (lowEnd bs b) (LargerBin bin b)) larger-way
     larger-at bin F =
+        let z : size bin ≡ smallestBin s (b + large) = found-size s (B .loose) 1 (b + large) (omega arith) bin F refl in
         by-flag (none bin)
         (λ t. reads-by s _ _ _ _ (when-yes (none bin) _ _ t)
-        (if=-yes (smallestBin s (b + large)) 0 _ _ (found-none s (B .loose) (b + large) (omega arith) bin F t)) low-reads)
-        (λ t. let n : smallestBin s (b + large) ≢ 0 = found-some s (B .loose) (b + large) (omega arith) bin F t in
+        (if=-yes (smallestBin s (b + large)) 0 _ _ (found-none s (B .loose) 1 (b + large) (omega arith) bin F refl t)) low-reads)
+        (λ t. let L : Led s (smallestBin s (b + large)) bin = found-some s (B .loose) 1 (b + large) (omega arith) bin F refl t in
+        let n : smallestBin s (b + large) ≢ 0 = omega (arith, L .big) in
         reads-by s _ _ _ _ (when-no (none bin) _ _ t) (if=-no (smallestBin s (b + large)) 0 _ _ n)
         (record {
-          says = ap (λ (z : ℕ). larger-bin z b) (found-size s (B .loose) (b + large) (omega arith) bin F);
-          carries = (eights, b-large, F, n);
+          says = ap (λ (k : ℕ). larger-bin k b) z;
+          carries = (eights, b-large, omega (arith, smallest-found s (b + large) n .0), subst (λ (k : ℕ). Led s k bin) (sym z) L);
         }))
 
-    larger-reads : (exact : Bin) → Found s b exact → Reads s (chooseLarger bs exact b) larger-way
+    larger-reads : (at : Bin) → Found s (height (s .top) b) b 0 at → Reads s (chooseLarger bs at b) larger-way
     unfolding chooseLarger
-    larger-reads exact F =
+    larger-reads at F =
         let p : plus b large ≡ b + large = omega arith in
-        subst (λ (k : ℕ). Reads s (when (none (findOn bs exact k)) (lowEnd bs b) (LargerBin (findOn bs exact k) b)) larger-way) (sym p)
-        (larger-at (findOn bs exact (b + large)) (find-on-found s bs B (b + large) b exact F (omega arith)))
+        subst (λ (k : ℕ). Reads s (when (none (findOn bs at k)) (lowEnd bs b) (LargerBin (findOn bs at k) b)) larger-way) (sym p)
+        (larger-at (findOn bs at (b + large))
+        (find-on-found s (B .loose) bs (between-index s bs B) (height (s .top) b) b (b + large) at (height-pos s (B .loose) b) (height-le (s .top) b) F (omega arith)))
 
-    large-at : (exact : Bin) → Found s b exact
-        → Reads s (when (none exact) (lowEnd bs b) (if= (size exact) b (ExactBin exact b) (chooseLarger bs exact b))) (chooseLarge s b)
+    large-at : (at : Bin) → Found s (height (s .top) b) b 0 at → Reads s (if= (size at) b (ExactBin at b) (chooseLarger bs at b)) (chooseLarge s b)
+    unfolding chooseLarge size
+    large-at at F =
+        by= (at .size) b
+        (λ e. let L : Led s b at = exact-led s (B .loose) (height (s .top) b) b b-large at F (omega arith) e in
+        reads-by s _ _ _ _ (if=-yes (at .size) b _ _ e) (if=-no (first (s .bins b)) 0 _ _ (λ o. L .some (L .leads ∙ o)))
+        (record { says = refl; carries = (eights, b-large, L) }))
+        (λ d. reads-by s _ _ _ _ (if=-no (at .size) b _ _ d)
+        (if=-yes (first (s .bins b)) 0 _ _ (found-empty s (B .loose) (height (s .top) b) b b-large at F (omega arith) d)) (larger-reads at F))
+
+    -- there is no bin at all
+    empty-reads : empty bs ≡ true → Reads s (lowEnd bs b) (chooseLarge s b)
     unfolding chooseLarge
-    large-at exact F =
-        by-flag (none exact)
-        (λ t. let all = none-smallest s b (B .loose) (omega arith) (found-none s (B .loose) b b-large exact F t) in
-        let none-larger : smallestBin s (b + large) ≡ 0 = smallest-none s (b + large) (λ u l. all u (omega arith)) in
-        reads-by s _ _ _ _ (when-yes (none exact) _ _ t)
-        (if=-yes (first (s .bins b)) 0 _ _ (all b (omega arith)) ∙ if=-yes (smallestBin s (b + large)) 0 _ _ none-larger) low-reads)
-        (λ t. by= (size exact) b
-        (λ e. let z : smallestBin s b ≡ b = sym (found-size s (B .loose) b b-large exact F) ∙ e in
-        let n : first (s .bins b) ≢ 0 = subst (λ (k : ℕ). first (s .bins k) ≢ 0) z (smallest-found s b (λ o. omega (arith, sym z ∙ o)) .1) in
-        reads-by s _ _ _ _ (when-no (none exact) _ _ t ∙ if=-yes (size exact) b _ _ e) (if=-no (first (s .bins b)) 0 _ _ n)
-        (record { says = refl; carries = (eights, b-large, F, z) }))
-        (λ d. let o : first (s .bins b) ≡ 0 =
-        by= (first (s .bins b)) 0 (λ e. e) (λ n. absurd (d (found-size s (B .loose) b b-large exact F ∙ smallest-exact s b (B .loose) (omega arith) n))) in
-        reads-by s _ _ _ _ (when-no (none exact) _ _ t ∙ if=-no (size exact) b _ _ d) (if=-yes (first (s .bins b)) 0 _ _ o) (larger-reads exact F)))
+    empty-reads t =
+        let all : (z : ℕ) → large ≤ z → first (s .bins z) ≡ 0 = empty-none s (B .loose) bs (between-index s bs B) t in
+        reads-by s _ _ _ _ refl
+        (if=-yes (first (s .bins b)) 0 _ _ (all b b-large)
+        ∙ if=-yes (smallestBin s (b + large)) 0 _ _ (smallest-none s (b + large) (λ u l. all u (omega arith)))) low-reads
 
     large-reads : Reads s (chooseLarge-model bs b) (chooseLarge s b)
     unfolding chooseLarge-model
-    large-reads = large-at (find bs b) (find-found s bs B b b-large)
+    large-reads =
+        by-flag (empty bs)
+        (λ t. reads-by s _ _ _ _ (when-yes (empty bs) _ _ t) refl (empty-reads t))
+        (λ t. reads-by s _ _ _ _ (when-no (empty bs) _ _ t) refl (large-at (exact bs b) (exact-found s (B .loose) bs (between-index s bs B) b b-large near)))
 
 -- ---- any payload: a block of more than 65,536 bytes is refused by both
 module _ (s : State) (bs : List ℕ) (S : Stands s bs) where

@@ -8,7 +8,7 @@ use Rattle.heads.specs.Heads.{blockSize}
 use Rattle.paper.specs.Answers.{no-room, no-size}
 use Rattle.paper.specs.Layout.{large, small-bins}
 use Rattle.bins.specs.declared.chain.Bin.{Bin}
-use Rattle.bins.specs.Find.{find, findOn, none, size}
+use Rattle.bins.specs.Find.{empty, exact, findOn, none, size}
 use Rattle.choosing.specs.Remainder.{remainder}
 use Rattle.choosing.specs.declared.Choice.{Choice}
 use Rattle.choosing.specs.declared.Choice.the-variants.{ExactBin, FirstOfBin, HighEnd, LargerBin, LowEnd, Refusal}
@@ -29,16 +29,16 @@ chooseSmall bs b =
     let q = wordAt 4 bs (small-bins + b) in
     if= q 0 (highEnd bs b) (FirstOfBin q b)
 
--- the smallest bin of at least b + 72, past the one that was found for b, or the remainder
+-- the smallest bin of at least b + 72, past where that of b would stand, or the remainder
 unfoldable pub chooseLarger : List ℕ → Bin → ℕ → Choice
-chooseLarger bs exact b =
-    let larger = findOn bs exact (plus b large) in
+chooseLarger bs at b =
+    let larger = findOn bs at (plus b large) in
     when (none larger) (lowEnd bs b) (LargerBin larger b)
 
 unfoldable pub chooseLarge : List ℕ → ℕ → Choice
 chooseLarge bs b =
-    let exact = find bs b in
-    when (none exact) (lowEnd bs b) (if= (size exact) b (ExactBin exact b) (chooseLarger bs exact b))
+    let at = exact bs b in
+    when (empty bs) (lowEnd bs b) (if= (size at) b (ExactBin at b) (chooseLarger bs at b))
 
 unfoldable pub choose : List ℕ → ℕ → Choice
 choose bs s =

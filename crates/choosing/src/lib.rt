@@ -64,14 +64,14 @@ fn choose_larger(pool: &[u8], exact: Bin, b: u32) -> Choice
     Choice::LargerBin(larger, b)
 }
 
-// The bin of exactly b, or a larger one. Where none is at least b, the remainder.
+// The bin of exactly b, or a larger one. Where there is no bin at all, the remainder.
 fn choose_large(pool: &[u8], b: u32) -> Choice
     ensures { λ r. ⌜ r ≡ chooseLarge (now (pool .entry)) b ⌝ }
 {
-    let exact = bins::find(pool, b);
-    if bins::none(exact) {
+    if bins::empty(pool) {
         return low_end(pool, b);
     }
+    let exact = bins::exact(pool, b);
     if bins::size(exact) == b {
         return Choice::ExactBin(exact, b);
     }

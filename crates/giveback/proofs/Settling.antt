@@ -125,7 +125,7 @@ module _ (t rest : ℕ) (xs ms ys high : List Block) (y : ℕ) (b : ℕ → List
           settled =
               ap (λ (k : List ℕ). earned k z) made
               ∙ earned-is (enter (puts ps cs) a m) z (freeSum (blocks (O b)) - 4)
-              (entered-word (O b) cs B (N b) refl ends a m (flagPast 1 xs) big run-in ps past ∙ free-word-read (O b) cs B)
+              (entered-word (O b) cs B (N b) refl ends a m (flagPast 1 xs) big run-in ps past W' free-after S ∙ free-word-read (O b) cs B)
               (omega (arith, inside, freeSum-le (blocks (O b)), B .fits))
               ∙ ap (putAt 4 (enter (puts ps cs) a m) free-word-at) sum-after
               ∙ entered-written (O b) cs B (N b) refl ends a m (flagPast 1 xs) big run-in ps past W' free-after S G

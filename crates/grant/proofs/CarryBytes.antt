@@ -1,11 +1,9 @@
 -- Carrying out what was chosen, on bytes, is the paper's: each way is one law.
 use mathlib.Core.List.{List}
-use mathlib.Core.Logic.{_≢_}
-use mathlib.Core.Path.{_∙_, _≡_, ap, refl, subst, sym}
-use Prim.Native.Nat.{_+_, ℕ}
+use mathlib.Core.Path.{_∙_, _≡_, ap, sym}
+use Prim.Native.Nat.{ℕ}
 use native.Mathlib.Omega.{arith}
-use Rattle.bins.proofs.Between.{stands-between}
-use Rattle.bins.proofs.ChainRead.{found-size}
+use Rattle.bins.specs.Find.{size}
 use Rattle.choosing.proofs.ChoiceRead.{Carries, said}
 use Rattle.grant.proofs.LowBytes.{cutLow-bytes}
 use Rattle.grant.proofs.PartBytes.{takePart-bytes}
@@ -17,14 +15,11 @@ use Rattle.grant.specs.Take.{carryOut as carryOut-model}
 use Rattle.choosing.specs.declared.Choice.{Choice}
 use Rattle.choosing.specs.declared.Choice.the-variants.{ExactBin, FirstOfBin, HighEnd, LargerBin, LowEnd, Refusal}
 use Rattle.choosing.specs.declared.remainder.Rest.{Rest}
-use Rattle.paper.proofs.bins.Smallest.{smallest-found}
 use Rattle.paper.proofs.reads.Stands.{Stands}
 use Rattle.paper.specs.Answers.{out}
-use Rattle.paper.specs.Bins.{first}
 use Rattle.paper.specs.Blocks.{State}
 use Rattle.paper.specs.Calls.{leaves}
-use Rattle.paper.specs.Granting.{carryOut, smallestBin, takePart}
-use Rattle.paper.specs.Layout.{large}
+use Rattle.paper.specs.Granting.{carryOut}
 use Rattle.paper.specs.Sheet.{Holds}
 use Rattle.paper.specs.declared.Answer.the-variants.{Refused}
 
@@ -33,15 +28,8 @@ unfolding carryOut-model Holds
 carryOut-bytes s bs S (FirstOfBin q b) h = takeFirst-bytes s bs S b (h .0) (omega (arith, h .1, h .2)) (h .1) q (h .3) (h .4)
 carryOut-bytes s bs S (HighEnd rest b) h =
     ap (λ (r : Rest). cutHigh bs r b) (h .3) ∙ cutHigh-bytes s bs S b (h .0) (omega (arith, h .1, h .2)) (h .1) (h .4)
-carryOut-bytes s bs S (ExactBin bin b) h =
-    let f = smallest-found s b (λ o. omega (arith, h .1, sym (h .3) ∙ o)) in
-    takeWhole-bytes s bs S b (h .1) (h .0) (subst (λ (k : ℕ). first (s .bins k) ≢ 0) (h .3) (f .1)) bin (h .2) (h .3)
-carryOut-bytes s bs S (LargerBin bin b) h =
-    let z = smallestBin s (b + large) in
-    let f = smallest-found s (b + large) (h .3) in
-    takePart-bytes s bs S b (h .1) (h .0) z (f .0) (f .1) bin (h .2) refl
-    ∙ ap (λ (k : ℕ). leaves (takePart s k b) bs)
-    (sym (found-size s (stands-between s bs S .loose) (b + large) (omega (arith, h .1)) bin (h .2)))
+carryOut-bytes s bs S (ExactBin bin b) h = takeWhole-bytes s bs S b (h .0) bin (h .2)
+carryOut-bytes s bs S (LargerBin bin b) h = takePart-bytes s bs S b (h .1) (h .0) (size bin) (h .2) bin (h .3)
 carryOut-bytes s bs S (LowEnd rest b) h =
     ap (λ (r : Rest). cutLow bs r b) (h .2) ∙ cutLow-bytes s bs S b (omega (arith, h .1)) (h .0) (h .3)
 carryOut-bytes s bs S (Refusal k) h = ap (out (Refused k)) (sym (S .holds))

@@ -1,12 +1,12 @@
 -- Taking the low end of a block of a larger bin, on bytes, is the paper's: the used block has left its bin, is parted, and the rest enters its own.
-use mathlib.Core.List.{List, [], _∷_}
+use mathlib.Core.List.{List, [], _++_, _∷_}
 use mathlib.Core.Logic.{_≢_}
 use mathlib.Core.Path.{_∙_, _≡_, ap, refl, subst, sym}
 use Prim.Native.Nat.{_%_, _+_, _-_, _≤_, ℕ}
 use native.Mathlib.Omega.{arith}
 use Rattle.bins.proofs.Between.{Between, free-word-read, stands-between}
-use Rattle.bins.proofs.ChainRead.{Found, found-size}
-use Rattle.bins.proofs.Entered.{entered-alone, entered-word, entered-written}
+use Rattle.bins.proofs.Entered.{entered-alone, entered-word, entered-written, free-heads}
+use Rattle.bins.proofs.Led.{Led}
 use Rattle.bins.proofs.Left.{Left, left-write, take-out-left, used-is}
 use Rattle.bins.specs.Enter.{enter as enter-model}
 use Rattle.bins.specs.Find.{size}
@@ -24,14 +24,15 @@ use Rattle.paper.proofs.reads.HeadWords.{heldHead-is}
 use Rattle.paper.proofs.reads.HeaderReads.{free-near}
 use Rattle.paper.proofs.reads.Stands.{Stands}
 use Rattle.paper.proofs.runs.Walk.{In, flagPast}
+use Rattle.paper.proofs.sheet.Phases.{Step}
 use Rattle.paper.proofs.sheet.Stores.{puts}
 use Rattle.paper.proofs.steps.LinkWords.{enter-grows}
 use Rattle.paper.specs.Bins.{enter, first, rebin, used, leave as leave-list}
 use Rattle.paper.specs.Blocks.{State, block, blocks, end, free, freeSum, held, total}
 use Rattle.paper.specs.Calls.{leaves}
 use Rattle.paper.specs.Governed.{headWord, sheet}
-use Rattle.paper.specs.Granting.{smallestBin, takePart}
-use Rattle.paper.specs.Layout.{blocks-at, large}
+use Rattle.paper.specs.Granting.{takePart}
+use Rattle.paper.specs.Layout.{blocks-at, free-word-at, large}
 use Rattle.paper.specs.Sheet.{write}
 use Rattle.words.specs.Sums.{minus, plus}
 use Rattle.words.specs.Words.{putAt}
@@ -100,36 +101,40 @@ module _ (s : State) (bs : List ℕ) (S : Stands s bs) (b : ℕ) (b-large : larg
       (λ i. split cs (sym (A .starts) i) z b)
       ∙ (λ i. enter-model (putAt 4 cs a ((heldHead-is b (omega (arith, near)) ∙ ap (headWord b held) (sym (A .flag))) i)) (p i) (m i))
 
+  abbrev free-after : ℕ
+  free-after = freeSum (blocks O) - 4 - b
+
+  step : Step (end (N bins₁)) (sheet O) (sheet (N bins₁)) (low-head ++ (free-heads (a + b) (z - b) ++ (free-word-at, free-after) ∷ []))
+  step =
+      part-step (s .top) (s .rest) (A .under-it) (A .over) (s .high) z b (A .y) b-large more (omega (arith, A .large-y)) (A .eights) eights aligned bins₁
+      (entered-alone (N bins₁) (a + b) (z - b) loose₂)
+
   pub part-written : spent (split cs (used (s .bins z)) z b) b ≡ write (sheet (takePart s z b .state)) bs
   part-written =
       ap (λ (k : List ℕ). spent k b) made
       ∙ spent-is (enter-model (puts low-head cs) (a + b) (z - b)) b (freeSum (blocks O) - 4)
-      (entered-word O cs B (N bins₁) refl same-end (a + b) (z - b) 1 (omega arith) rest-in low-head (omega arith, tt) ∙ free-word-read O cs B)
+      (entered-word O cs B (N bins₁) refl same-end (a + b) (z - b) 1 (omega arith) rest-in low-head (omega arith, tt) loose₂
+      free-after step ∙ free-word-read O cs B)
       (omega (arith, same-free, free-near s bs S))
       (omega (arith, part-room (s .top) (s .rest) (A .under-it) (A .over) (s .high) z b (A .y) b-large more bins₁))
       ∙ entered-written O cs B (N bins₁) refl same-end (a + b) (z - b) 1 (omega arith) rest-in low-head (omega arith, tt) loose₂
-      (freeSum (blocks O) - 4 - b)
-      (part-step (s .top) (s .rest) (A .under-it) (A .over) (s .high) z b (A .y) b-large more (omega (arith, A .large-y)) (A .eights) eights aligned bins₁
-      (entered-alone (N bins₁) (a + b) (z - b) loose₂))
+      free-after step
       (part-good (s .top) (s .rest) (A .under-it) (A .over) (s .high) z b (A .y) b-large more (omega (arith, A .large-y)) (A .eights) eights aligned
       bins₁ bins₂)
       ∙ left-write s bs (sym (S .ends)) bins₁ cs L (N bins₂) loose₂ refl (λ r. enter-grows r bins₁ (z - b) (a + b))
       ∙ ap (λ (k : State). write (sheet k) bs) (sym after)
 
 -- from the bin that was found
-pub takePart-bytes : (s : State) (bs : List ℕ) (S : Stands s bs) (b : ℕ) → large ≤ b → b % 8 ≡ 0 → (z : ℕ) → b + large ≤ z → first (s .bins z) ≢ 0
-    → (bin : Bin) → Found s (b + large) bin → smallestBin s (b + large) ≡ z
-    → takePart-model bs bin b ≡ leaves (takePart s z b) bs
-unfolding takePart-model takePart
-takePart-bytes s bs S b b-large eights z more n bin F e =
+pub takePart-bytes : (s : State) (bs : List ℕ) (S : Stands s bs) (b : ℕ) → large ≤ b → b % 8 ≡ 0 → (z : ℕ) → b + large ≤ z
+    → (bin : Bin) → Led s z bin → takePart-model bs bin b ≡ leaves (takePart s z b) bs
+unfolding takePart-model takePart size
+takePart-bytes s bs S b b-large eights z more bin D =
+    let n : first (s .bins z) ≢ 0 = (λ o. D .some (D .leads ∙ o)) in
     let K = takePart-keeps s (S .well-formed) b b-large eights z more n in
     let B = stands-between s bs S in
-    let big : large ≤ b + large = omega arith in
-    let z-large : large ≤ z = omega arith in
-    let L = take-out-left s bs B (b + large) big bin F z e (omega arith) in
-    let A = around s (S .well-formed) z z-large n in
-    let u = used-is s bs B (b + large) big bin F z e (omega arith) in
-    let sz : size bin ≡ z = found-size s (B .loose) (b + large) big bin F ∙ e in
-    (λ i. granted-model (split (takeOut bs bin) (u i) (sz i) b) (u i) b)
+    let L = take-out-left s bs B z bin D in
+    let A = around s (S .well-formed) z (D .big) n in
+    let u = used-is s bs B z bin D in
+    (λ i. granted-model (split (takeOut bs bin) (u i) (D .sized i) b) (u i) b)
     ∙ granted-leaves (split (takeOut bs bin) (used (s .bins z)) z b) (used (s .bins z)) b (takePart s z b .state) bs
     (omega (arith, A .place, S .well-formed .fits)) (part-written s bs S b b-large eights z more A K (takeOut bs bin) L)

@@ -7,7 +7,7 @@ use Prim.Native.Nat.{_%_, _+_, _-_, _≤_, ℕ}
 use native.Mathlib.Omega.{arith}
 use lib.ListN.{length}
 use Rattle.bins.proofs.Between.{free-word-read, head-read, stands-between}
-use Rattle.bins.proofs.ChainRead.{Found}
+use Rattle.bins.proofs.Led.{Led}
 use Rattle.bins.proofs.Left.{Left, grows-same, left-write, take-out-left, used-is}
 use Rattle.bins.specs.Leave.{takeOut}
 use Rattle.bins.specs.declared.chain.Bin.{Bin}
@@ -31,7 +31,7 @@ use Rattle.paper.specs.Bins.{first, rebin, used, leave as leave-list}
 use Rattle.paper.specs.Blocks.{Kind, State, block, blocks, end, free, freeSum, held, remainder}
 use Rattle.paper.specs.Calls.{leaves}
 use Rattle.paper.specs.Governed.{headWord, sheet}
-use Rattle.paper.specs.Granting.{smallestBin, takeWhole}
+use Rattle.paper.specs.Granting.{takeWhole}
 use Rattle.paper.specs.Sheet.{Holds, write}
 use Rattle.words.proofs.Laws.{word-apart}
 use Rattle.words.specs.Sums.{plus}
@@ -122,13 +122,14 @@ module _ (s : State) (bs : List ℕ) (S : Stands s bs) (b : ℕ) (large : 72 ≤
       ∙ ap (λ (k : State). write (sheet k) bs) (sym after)
 
 -- from the bin that was found
-pub takeWhole-bytes : (s : State) (bs : List ℕ) (S : Stands s bs) (b : ℕ) → 72 ≤ b → b % 8 ≡ 0 → first (s .bins b) ≢ 0
-    → (bin : Bin) → Found s b bin → smallestBin s b ≡ b → takeWhole-model bs bin b ≡ leaves (takeWhole s b) bs
+pub takeWhole-bytes : (s : State) (bs : List ℕ) (S : Stands s bs) (b : ℕ) → b % 8 ≡ 0 → (bin : Bin) → Led s b bin
+    → takeWhole-model bs bin b ≡ leaves (takeWhole s b) bs
 unfolding takeWhole-model takeWhole
-takeWhole-bytes s bs S b large eights n bin F e =
+takeWhole-bytes s bs S b eights bin D =
+    let n : first (s .bins b) ≢ 0 = (λ o. D .some (D .leads ∙ o)) in
     let B = stands-between s bs S in
-    let L = take-out-left s bs B b large bin F b e (omega arith) in
-    let A = around s (S .well-formed) b large n in
-    ap (λ (k : ℕ). granted-model (hold (takeOut bs bin) k b) k b) (used-is s bs B b large bin F b e (omega arith))
+    let L = take-out-left s bs B b bin D in
+    let A = around s (S .well-formed) b (D .big) n in
+    ap (λ (k : ℕ). granted-model (hold (takeOut bs bin) k b) k b) (used-is s bs B b bin D)
     ∙ granted-leaves (hold (takeOut bs bin) (used (s .bins b)) b) (used (s .bins b)) b (takeWhole s b .state) bs
-    (omega (arith, A .place, S .well-formed .fits)) (whole-written s bs S b large eights n (takeOut bs bin) L)
+    (omega (arith, A .place, S .well-formed .fits)) (whole-written s bs S b (D .big) eights n (takeOut bs bin) L)

@@ -2,20 +2,22 @@
 use mathlib.Core.Path.{_≡_, refl, sym, ap, _∙_, subst}
 use mathlib.Core.Bool.{Bool, true, false, not}
 use mathlib.Core.List.{List}
-use Prim.Native.Nat.{ℕ, zero, suc, _+_, _-_, _%_, _≤_, _<_}
+use Prim.Native.Nat.{ℕ, zero, suc, _+_, _-_, _*_, _%_, _≤_, _<_}
 use native.Mathlib.Omega.{arith}
+use lib.Bits.{and-le-l, and-le-r, bitOr, or-add-and, or-zero-l}
 use lib.ListN.{length}
 use lib.Dec.{eqb}
-use borrow.Author.Tests.{eq-eqb, ne-eqb, eqb-true, not-false}
-use Rattle.words.specs.Choice.{if=-yes, if=-no, by=}
+use borrow.Author.Tests.{eq-eqb, ne-eqb, eqb-true}
+use Rattle.words.specs.Choice.{if=, if=-yes, if=-no, by=}
 use Rattle.words.specs.Sums.{plus, minus}
 use Rattle.words.specs.Words.{wordAt}
 use Rattle.heads.specs.Heads.{freeHead}
 use Rattle.heads.specs.Links.{linkWord, followed}
 use Rattle.guards.specs.Tests.{pass}
-use Rattle.paper.specs.Layout.{blocks-at, chain-at, false-block, false-word-at, level-at}
-use Rattle.header.specs.Header.{cleared, rest-between, zero-tests, false-tests}
-use Rattle.guards.proofs.Guards.{guard-inv, guard-yes, no-both, pass-is}
+use Rattle.levels.specs.Levels.{topOf}
+use Rattle.paper.specs.Layout.{blocks-at, chain-at, false-block, false-word-at, level-at, levels}
+use Rattle.header.specs.Header.{cleared, rest-between, reserved-tests, false-tests}
+use Rattle.guards.proofs.Guards.{guard-inv, guard-yes, no-both, pass-is, pass-no, passed}
 
 -- ---- links
 
@@ -40,37 +42,51 @@ link-true q {b} {w} {l} e f h = subst (λ (v : ℕ). v ≡ linkWord q (followed 
 pub true-link : (q : ℕ) {b : Bool} {w l : ℕ} → b ≡ eqb w (linkWord q (followed q w)) → w ≡ l → l ≡ linkWord q (followed q l) → b ≡ true
 true-link q {b} {w} {l} e f h = e ∙ eq-eqb _ _ (subst (λ (v : ℕ). v ≡ linkWord q (followed q v)) (sym f) h)
 
--- ---- words that are 0: what is left of them decides
+-- ---- words that are 0: those so far together, and what is left of them decides
 
-pub record Clearing (s : List ℕ) (k st from : ℕ) (n at : ℕ) : Type 0 where
-  pub all : cleared s k st from ≡ cleared s n st at
+-- a number of which each bit is one of two others' is 0 where they are
+either-zero : (a b : ℕ) → bitOr a b ≡ 0 → (a ≡ 0) × (b ≡ 0)
+either-zero a b h = (omega (arith, or-add-and a b, and-le-r a b), omega (arith, or-add-and a b, and-le-l a b))
 
-pub clearing : (s : List ℕ) (k st from : ℕ) → Clearing s k st from k from
-clearing s k st from = record { all = refl }
+pub record Clearing (s : List ℕ) (k st from : ℕ) (all n at : ℕ) : Type 0 where
+  pub rest : cleared s k st from ≡ if= all 0 (cleared s n st at) false
+  pub short : n ≤ k
+  pub near : at + 4294967296 * n ≤ from + 4294967296 * k
+
+pub clearing : (s : List ℕ) (k st from : ℕ) → Clearing s k st from 0 k from
+clearing s k st from = record { rest = sym (if=-yes 0 0 _ _ refl); short = omega arith; near = omega arith }
 
 clear-end : (s : List ℕ) (n st at : ℕ) → n ≡ 0 → cleared s n st at ≡ true
 unfolding cleared
 clear-end s zero st at e = refl
 clear-end s (suc n) st at e = absurd (omega arith)
 
-clear-bad : (s : List ℕ) (n st at : ℕ) → (n ≡ 0 → ⊥) → (wordAt 4 s at ≡ 0 → ⊥) → cleared s n st at ≡ false
+clear-on : (s : List ℕ) (all n st at : ℕ) → if= all 0 (cleared s (suc n) st at) false ≡ if= (bitOr all (wordAt 4 s at)) 0 (cleared s n st (at + st)) false
 unfolding cleared
-clear-bad s zero st at e h = absurd (e refl)
-clear-bad s (suc n) st at e h = if=-no (wordAt 4 s at) 0 _ _ h
+clear-on s all n st at =
+    by= all 0
+    (λ e. by= (wordAt 4 s at) 0
+    (λ f. if=-yes all 0 _ _ e ∙ if=-yes (wordAt 4 s at) 0 _ _ f
+    ∙ sym (if=-yes (bitOr all (wordAt 4 s at)) 0 _ _ (ap (λ (v : ℕ). bitOr v (wordAt 4 s at)) e ∙ or-zero-l (wordAt 4 s at) ∙ f)))
+    (λ f. if=-yes all 0 _ _ e ∙ if=-no (wordAt 4 s at) 0 _ _ f
+    ∙ sym (if=-no (bitOr all (wordAt 4 s at)) 0 _ _ (λ h. f (either-zero all (wordAt 4 s at) h .1)))))
+    (λ e. if=-no all 0 _ _ e ∙ sym (if=-no (bitOr all (wordAt 4 s at)) 0 _ _ (λ h. e (either-zero all (wordAt 4 s at) h .0))))
 
-clear-on : (s : List ℕ) (n st at : ℕ) → wordAt 4 s at ≡ 0 → cleared s (suc n) st at ≡ cleared s n st (at + st)
-unfolding cleared
-clear-on s n st at h = if=-yes (wordAt 4 s at) 0 _ _ h
+module _ {s : List ℕ} {k st from all n at : ℕ} (g : Clearing s k st from all n at) where
+  pub is-cleared : n ≡ 0 → eqb all 0 ≡ cleared s k st from
+  is-cleared e =
+      by= all 0
+      (λ h. eq-eqb all 0 h ∙ sym (g .rest ∙ if=-yes all 0 _ _ h ∙ clear-end s n st at e))
+      (λ h. ne-eqb all 0 h ∙ sym (g .rest ∙ if=-no all 0 _ _ h))
 
-module _ {s : List ℕ} {k st from n at : ℕ} (g : Clearing s k st from n at) where
-  pub is-cleared : n ≡ 0 → true ≡ cleared s k st from
-  is-cleared e = sym (g .all ∙ clear-end s n st at e)
-
-  pub not-cleared : {w : ℕ} → (n ≡ 0 → ⊥) → w ≡ wordAt 4 s at → (w ≡ 0 → ⊥) → false ≡ cleared s k st from
-  not-cleared e h i = sym (g .all ∙ clear-bad s n st at e (λ j. i (h ∙ j)))
-
-  pub clears : {w : ℕ} → (n ≡ 0 → ⊥) → w ≡ wordAt 4 s at → w ≡ 0 → Clearing s k st from (n - 1) (at + st)
-  clears e h i = record { all = g .all ∙ ap (λ (v : ℕ). cleared s v st at) (omega arith) ∙ clear-on s (n - 1) st at (sym h ∙ i) }
+  pub clears : {w : ℕ} → (n ≡ 0 → ⊥) → st < 4294967296 → w ≡ wordAt 4 s at → Clearing s k st from (bitOr all w) (n - 1) (at + st)
+  clears {w} e l h =
+      record {
+        rest = g .rest ∙ ap (λ (v : ℕ). if= all 0 (cleared s v st at) false) (omega arith) ∙ clear-on s all (n - 1) st at
+            ∙ ap (λ (v : ℕ). if= (bitOr all v) 0 (cleared s (n - 1) st (at + st)) false) (sym h);
+        short = omega (arith, g .short);
+        near = omega (arith, g .near);
+      }
 
 -- ---- the last test of each list: all before it have passed
 
@@ -81,15 +97,30 @@ rest-is s a b {w} {h} after least room inside a8 b8 ew eh =
     (λ k. (omega arith, (omega arith, (omega arith, (a8, (b8, (sym ew ∙ eqb-true _ _ k ∙ eh, tt)))))))
     (λ t. eq-eqb _ _ (ew ∙ t .1 .1 .1 .1 .1 .0 ∙ sym eh))
 
-pub zeros-is : (s : List ℕ) → true ≡ cleared s 12 8 4 → Clearing s 3 4 false-block 0 (false-block + level-at) → true ≡ cleared s 12 4 (false-block + 16)
-    → true ≡ pass (zero-tests s)
-zeros-is s a b c = pass-is (zero-tests s) true (λ h. (sym a, (sym (is-cleared b refl), (sym c, tt)))) (λ t. refl)
+-- the level word is that of layout 2, of none, or of layout 1
 
-pub false-is : (s : List ℕ) {w1 w2 w3 w4 : ℕ} {b e : Bool} → blocks-at ≤ length s → w1 ≡ wordAt 4 s false-word-at → w1 ≡ false-block
-    → w2 ≡ wordAt 4 s (false-block + level-at) → w2 ≡ 1 → w3 ≡ wordAt 4 s (false-block + chain-at) → b ≡ eqb w3 (linkWord false-block (followed false-block w3))
-    → not b ≡ false → w4 ≡ wordAt 4 s (false-block + chain-at + 4) → w4 ≡ 0 → e ≡ pass (zero-tests s) → e ≡ pass (false-tests s)
-false-is s {e = e} r a1 b1 a2 b2 a3 a3' b3 a4 b4 a5 =
+module _ (s : List ℕ) {w : ℕ} (e : w ≡ wordAt 4 s (false-block + level-at)) where
+  pub reserved-two : w ≡ levels → true ≡ pass (reserved-tests s)
+  unfolding topOf cleared
+  reserved-two h =
+      let t : topOf s ≡ levels = if=-yes (wordAt 4 s 108) 13 _ _ (sym e ∙ h) in
+      pass-is (reserved-tests s) true (λ k. (sym e ∙ h ∙ sym t, (ap (λ (v : ℕ). cleared s (13 - v) 4 112) t, tt))) (λ k. refl)
+
+  pub reserved-none : (w ≡ levels → ⊥) → (w ≡ 1 → ⊥) → false ≡ pass (reserved-tests s)
+  unfolding topOf
+  reserved-none h h' = pass-no (reserved-tests s) (λ k. h' (e ∙ k .0 ∙ if=-no (wordAt 4 s 108) 13 _ _ (λ i. h (e ∙ i))))
+
+  pub reserved-one : {b : Bool} → (w ≡ levels → ⊥) → w ≡ 1 → b ≡ cleared s 12 4 (false-block + 16) → b ≡ pass (reserved-tests s)
+  unfolding topOf
+  reserved-one {b} h h' eb =
+      let t : topOf s ≡ 1 = if=-no (wordAt 4 s 108) 13 _ _ (λ i. h (e ∙ i)) in
+      let c : b ≡ cleared s (13 - topOf s) 4 112 = eb ∙ ap (λ (v : ℕ). cleared s (13 - v) 4 112) (sym t) in
+      pass-is (reserved-tests s) b (λ k. (sym e ∙ h' ∙ sym t, (sym c ∙ k, tt))) (λ k. c ∙ k .1 .0)
+
+pub false-is : (s : List ℕ) {w1 w2 : ℕ} {b1 b2 e : Bool} → blocks-at ≤ length s → w1 ≡ wordAt 4 s false-word-at → w1 ≡ false-block
+    → w2 ≡ wordAt 4 s (false-block + chain-at + 4) → w2 ≡ 0 → b1 ≡ cleared s 12 8 4 → not b1 ≡ false → b2 ≡ cleared s 3 4 false-block → not b2 ≡ false
+    → e ≡ pass (reserved-tests s) → e ≡ pass (false-tests s)
+false-is s {e = e} r a1 h1 a2 h2 c1 k1 c2 k2 ee =
     pass-is (false-tests s) e
-    (λ h. let g = guard-inv (zero-tests s) false true true no-both (sym a5 ∙ h) .0 in
-    (sym a1 ∙ b1, (sym a2 ∙ b2, (link-true false-block a3' a3 (not-false _ b3), (sym a4 ∙ b4, (g .0, (g .1 .0, (g .1 .1 .0, (omega arith, tt)))))))))
-    (λ t. let z = t .1 .1 .1 .1 in a5 ∙ guard-yes (zero-tests s) false true (z .0, (z .1 .0, (z .1 .1 .0, tt))))
+    (λ h. (sym a1 ∙ h1, (sym a2 ∙ h2, (passed c1 k1, (passed c2 k2, (omega arith, guard-inv (reserved-tests s) false true true no-both (sym ee ∙ h) .0))))))
+    (λ t. ee ∙ guard-yes (reserved-tests s) false true (t .1 .1 .1 .1 .1))

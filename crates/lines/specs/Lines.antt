@@ -1,4 +1,5 @@
 -- "Each line: record number from 1, letter L, T, G, S or X, refusal number, value (for S done: the seven figures)."
+-- "Tape kind 5 lays out layout 2, 4-byte body, letter M" (request 2026-04).
 use mathlib.Core.Path.{_≡_}
 use mathlib.Core.List.{List, [], _∷_, _++_}
 use Prim.Native.Nat.{ℕ, _≤_}
@@ -8,7 +9,7 @@ use Rattle.paper.specs.declared.Answer.{Answer}
 use Rattle.paper.specs.declared.Tally.{Tally}
 use Rattle.paper.specs.declared.Tally.the-variants.{Counted, Refused}
 use Rattle.records.specs.declared.request.Request.{Request}
-use Rattle.records.specs.declared.request.Request.the-variants.{LayOut, Take, GiveBack, Figures}
+use Rattle.records.specs.declared.request.Request.the-variants.{LayOut, LayOutIndexed, Take, GiveBack, Figures}
 use Rattle.text.specs.Page.{page, put}
 use Rattle.text.specs.Numeral.{numeral}
 
@@ -18,9 +19,10 @@ space = 32
 abbrev pub newline : ℕ
 newline = 10
 
--- the letter of a request's line, L, T, G or S
+-- the letter of a request's line, L, M, T, G or S
 abbrev pub letterOf : Request → ℕ
 letterOf (LayOut n) = 76
+letterOf (LayOutIndexed n) = 77
 letterOf (Take size) = 84
 letterOf (GiveBack offset) = 71
 letterOf Figures = 83

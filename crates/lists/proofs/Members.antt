@@ -1,9 +1,8 @@
--- The tests of a member, and of the first block of a bin, by the words that were read.
+-- The tests of a member, by the words that were read.
 use mathlib.Core.Bool.{Bool, false, not, true}
 use mathlib.Core.List.{List}
 use mathlib.Core.Path.{_∙_, _≡_, sym}
 use Prim.Native.Nat.{_+_, _<_, ℕ}
-use native.Mathlib.Omega.{arith}
 use lib.Dec.{eqb, ltb}
 use borrow.Author.Tests.{eq-eqb, eqb-true, lt-ltb, ltb-true, not-false}
 use Rattle.guards.proofs.Guards.{off, pass-is, pass-no}
@@ -11,9 +10,9 @@ use Rattle.guards.specs.Tests.{Test, pass}
 use Rattle.header.proofs.Laws.{link-true, true-link}
 use Rattle.heads.specs.Heads.{sizeAt}
 use Rattle.heads.specs.Links.{followed, linkWord}
-use Rattle.lists.specs.Lists.{asked, first-tests, large-tests, small-tests}
+use Rattle.lists.specs.Lists.{asked, large-tests, small-tests}
 use Rattle.marks.specs.MarkSets.{bitMarks, markAt}
-use Rattle.paper.specs.Layout.{chain-at, level-at, next-at, previous-at}
+use Rattle.paper.specs.Layout.{next-at, previous-at}
 use Rattle.words.specs.Words.{wordAt}
 
 -- no member without a mark
@@ -38,10 +37,3 @@ large-is s m z p q {r = r} eb h ey size ev ed back eu er =
     pass-is (asked bitMarks (large-tests s z) m p q) r
     (λ k. (is-marked m q eb h, (sym ey ∙ size, (sym ev ∙ back ∙ ed, (link-true q er eu k, tt)))))
     (λ t. true-link q er eu (t .1 .1 .1 .0))
-
-pub first-is : (s : List ℕ) (y f : ℕ) {r : Bool} {z v u : ℕ} → z ≡ sizeAt s f → y < z → v ≡ wordAt 4 s (f + level-at) → v ≡ 1
-    → u ≡ wordAt 4 s (f + chain-at) → r ≡ eqb u (linkWord f (followed f u)) → r ≡ pass (first-tests s y f)
-first-is s y f {r} ez size ev level eu er =
-    pass-is (first-tests s y f) r
-    (λ k. (omega arith, (sym ev ∙ level, (link-true f er eu k, tt))))
-    (λ t. true-link f er eu (t .1 .1 .0))

@@ -1,4 +1,5 @@
 -- The lists of the bins: each member is marked, of its bin's size, and linked both ways; its mark goes. At the end no mark is left.
+-- The first blocks of the large bins are found along level 1 of the index.
 use mathlib.Core.Bool.{Bool, true, false}
 use mathlib.Core.List.{List, [], _∷_}
 use Prim.Native.Nat.{ℕ, zero, suc, _+_}
@@ -6,9 +7,11 @@ use Rattle.words.specs.Choice.{if=}
 use Rattle.words.specs.Words.{wordAt}
 use Rattle.heads.specs.Heads.{sizeAt}
 use Rattle.heads.specs.Links.{linkWord, followed}
-use Rattle.paper.specs.Layout.{small-next-at, previous-at, next-at, level-at, chain-at, small-bins, false-block}
-use Rattle.guards.specs.Tests.{Test, same, less, guard}
+use Rattle.paper.specs.Layout.{small-next-at, previous-at, next-at, small-bins, false-block}
+use Rattle.levels.specs.Levels.{topOf}
+use Rattle.guards.specs.Tests.{Test, same, less, holds, guard}
 use Rattle.marks.specs.MarkSets.{MarkSet}
+use Rattle.lists.specs.Index.{if-awaiting, nextOn, ended, falseIndexed, firstIndexed}
 
 -- how many marks are left, and which
 pub data Left (M : Type 0) : Type 0 where
@@ -27,10 +30,6 @@ module _ (bs : List ℕ) where
   abbrev pub nextSmall : ℕ → ℕ
   nextSmall q = wordAt 4 bs (q + small-next-at)
 
-  -- the first block of the bin that comes after q's in the chain
-  abbrev pub nextBin : ℕ → ℕ
-  nextBin q = followed q (wordAt 4 bs (q + chain-at))
-
   -- of the member q after p in the bin of size z: its head, its link back and its link on.
   -- A link on must be written as a distance is: another word could lead to 0, which is no start.
   abbrev pub large-tests : ℕ → ℕ → ℕ → List Test
@@ -39,11 +38,6 @@ module _ (bs : List ℕ) where
 
   abbrev pub small-tests : ℕ → ℕ → ℕ → List Test
   small-tests z p q = same (sizeAt bs q) z ∷ []
-
-  -- of the first block f of the bin after size y: its head, its level word and its chain word
-  abbrev pub first-tests : ℕ → ℕ → List Test
-  first-tests y f =
-      less y (sizeAt bs f) ∷ same (wordAt 4 bs (f + level-at)) 1 ∷ same (wordAt 4 bs (f + chain-at)) (linkWord f (nextBin f)) ∷ []
 
 -- what to test of member q after p, and the way on; k marks are left
 module _ {M : Type 0} (O : MarkSet M) (tests : ℕ → ℕ → List Test) where
@@ -71,13 +65,18 @@ module _ {M : Type 0} (O : MarkSet M) (bs : List ℕ) where
   smalls zero z k ms = left k ms
   smalls (suc c) z k ms = if-left (followSmall z k ms (wordAt 4 bs (z + small-bins))) lost (λ k' ms'. smalls c (z + 8) k' ms')
 
-  -- the large bins past size y, from the first block f on; at the end nothing is marked
-  unfoldable pub chain : ℕ → ℕ → M → ℕ → ℕ → Bool
-  chain zero k ms y f = false
-  chain (suc c) k ms y f =
-      if= f 0 (guard (same k 0 ∷ []) false true)
-      (guard (first-tests bs y f) false
-      (if-left (followLarge (sizeAt bs f) k ms f) false (λ k' ms'. chain c k' ms' (sizeAt bs f) (nextBin bs f))))
+module _ {M : Type 0} (O : MarkSet M) (t : ℕ) (bs : List ℕ) where
+  -- the large bins past size y, from the first block f on, which level 1 of an index t high awaits, as the others do ws; at the end nothing is
+  -- marked and nothing is awaited
+  unfoldable pub chain : ℕ → ℕ → M → ℕ → ℕ → List ℕ → Bool
+  chain zero k ms y f ws = false
+  chain (suc c) k ms y f ws =
+      if= f 0 (guard (same k 0 ∷ holds (ended t ws) ∷ []) false true)
+      (if-awaiting (firstIndexed bs t y (sizeAt bs f) f ws) false
+      (λ ws'. if-left (followLarge O bs (sizeAt bs f) k ms f) false (λ k' ms'. chain c k' ms' (sizeAt bs f) (nextOn bs 1 f) ws')))
 
+module _ {M : Type 0} (O : MarkSet M) (bs : List ℕ) where
   unfoldable pub lists : ℕ → M → Bool
-  lists k ms = if-left (smalls 8 8 k ms) false (λ k' ms'. chain (suc k') k' ms' 64 (nextBin bs false-block))
+  lists k ms =
+      if-left (smalls O bs 8 8 k ms) false
+      (λ k' ms'. if-awaiting (falseIndexed bs) false (λ ws. chain O (topOf bs) bs (suc k') k' ms' 64 (nextOn bs 1 false-block) ws))

@@ -1,9 +1,11 @@
 // The lists of the bins. Each member must be marked, and its mark goes, so none is met twice and no ring is followed for ever.
+mod index;
+
 use header::link_ok;
+use index::HIGHER;
 use paper::CHAIN;
 use paper::FALSE_BLOCK;
 use paper::LARGE;
-use paper::LEVEL;
 use paper::NEXT;
 use paper::PREVIOUS;
 use paper::SMALL_BINS;
@@ -13,7 +15,7 @@ ghost use Prim.Native.Nat.{suc};
 ghost use Rattle.guards.specs.Tests.{pass};
 ghost use Rattle.heads.specs.Heads.{sizeAt};
 ghost use Rattle.marks.specs.MarkSets.{bitMarks};
-ghost use Rattle.lists.specs.Lists.{asked, small-tests, large-tests, first-tests, followSmall, followLarge, smalls, chain, lists};
+ghost use Rattle.lists.specs.Lists.{asked, small-tests, large-tests, followSmall, followLarge, smalls, chain, lists};
 ghost use Rattle.lists.specs.Contract.{to-left};
 
 pub struct Left {
@@ -21,7 +23,7 @@ pub struct Left {
     pub left: usize,
 }
 
-// All the lists, where k starts are marked: at the end no mark is left.
+// All the lists, where k starts are marked: at the end no mark is left. At first every level of the index awaits the false block.
 pub fn all_listed(pool: &[u8], m: &mut [u64], k: usize) -> bool
     ensures { λ r. ⌜ r ≡ lists bitMarks (now (pool .entry)) k (now (m .entry)) ⌝ }
 {
@@ -29,12 +31,13 @@ pub fn all_listed(pool: &[u8], m: &mut [u64], k: usize) -> bool
     if !r.ok {
         return false;
     }
-    large_bins(
-        pool,
-        m,
-        r.left,
-        heads::follow(FALSE_BLOCK, words::field(pool, FALSE_BLOCK, CHAIN)),
-    )
+    let top = levels::top(pool);
+    let mut waits = [FALSE_BLOCK; HIGHER];
+    if !index::index_ok(pool, &mut waits, top, FALSE_BLOCK) {
+        return false;
+    }
+    let f = heads::follow(FALSE_BLOCK, words::field(pool, FALSE_BLOCK, CHAIN));
+    large_bins(pool, m, &mut waits, r.left, top, f)
 }
 
 // The eight small bins, whose first blocks stand in the header.
@@ -55,18 +58,26 @@ fn small_bins(pool: &[u8], m: &mut [u64], k: usize) -> Left
     Left { ok: true, left }
 }
 
-// The large bins, from the first block f0 on: sizes rise, and at the end no mark is left.
-fn large_bins(pool: &[u8], m: &mut [u64], k: usize, f0: u32) -> bool
-    ensures { λ r. ⌜ r ≡ chain bitMarks (now (pool .entry)) (suc k) k (now (m .entry)) 64 f0 ⌝ }
+// The large bins, from the first block f0 on, which level 1 of the index awaits; `waits` is what the others do. Sizes rise, and at the end no
+// mark is left and nothing is awaited.
+fn large_bins(
+    pool: &[u8],
+    m: &mut [u64],
+    waits: &mut [u32; HIGHER],
+    k: usize,
+    top: u32,
+    f0: u32,
+) -> bool
+    ensures { λ r. ⌜ r ≡ chain bitMarks top (now (pool .entry)) (suc k) k (now (m .entry)) 64 f0 (now (waits .entry)) ⌝ }
 {
     let mut left = k;
     let mut y: u32 = 64;
     let mut f = f0;
     while f != 0 {
-        if !first_ok(pool, y, f) {
+        let z = size_at(pool, f);
+        if !index::first_ok(pool, waits, top, y, z, f) {
             return false;
         }
-        let z = size_at(pool, f);
         let r = follow_large(pool, m, left, z, f);
         if !r.ok {
             return false;
@@ -75,7 +86,10 @@ fn large_bins(pool: &[u8], m: &mut [u64], k: usize, f0: u32) -> bool
         y = z;
         f = heads::follow(f, words::field(pool, f, CHAIN));
     }
-    left == 0
+    if left != 0 {
+        return false;
+    }
+    index::ended_ok(waits, top)
 }
 
 // The small bin of size z from `first` on.
@@ -145,19 +159,6 @@ fn large_ok(pool: &[u8], m: &[u64], z: u32, p: u32, q: u32) -> bool
         return false;
     }
     link_ok(q, words::field(pool, q, NEXT))
-}
-
-// The first block f of the bin after size y: its head, its level word and its chain word.
-fn first_ok(pool: &[u8], y: u32, f: u32) -> bool
-    ensures { λ r. ⌜ r ≡ pass (first-tests (now (pool .entry)) y f) ⌝ }
-{
-    if size_at(pool, f) <= y {
-        return false;
-    }
-    if words::field(pool, f, LEVEL) != 1 {
-        return false;
-    }
-    link_ok(f, words::field(pool, f, CHAIN))
 }
 
 // The size of the block at q, by its head.

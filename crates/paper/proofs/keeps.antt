@@ -1,5 +1,6 @@
 pub mod Kept
 pub mod KeptStands
+pub mod AnyLayout
 pub mod FreshSound
 pub mod Choices
 pub mod TakeSmallKeeps

@@ -37,6 +37,9 @@ list-length = 6
 abbrev pub unreadable : ℕ
 unreadable = 7
 
+abbrev pub no-layout : ℕ
+no-layout = 8
+
 -- "Refused figures are seven zeros"
 abbrev pub no-figures : Figures
 no-figures =

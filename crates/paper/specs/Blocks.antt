@@ -20,6 +20,10 @@ pub record State : Type 0 where
   pub high : List Block
   pub bins : ℕ → List ℕ
 
+-- the same blocks and lists, with an index t high
+abbrev pub withTop : ℕ → State → State
+withTop t s = record { top = t; low = s .low; rest = s .rest; high = s .high; bins = s .bins }
+
 abbrev pub size : Block → ℕ
 size (block z k) = z
 

@@ -9,14 +9,14 @@ use Rattle.paper.specs.declared.Answer.{Answer}
 use Rattle.paper.specs.declared.Answer.the-variants.{Done, Refused}
 use Rattle.paper.specs.declared.Tally.{Tally}
 use Rattle.paper.specs.declared.Tally.the-variants.{Counted, Refused as Uncounted}
-use Rattle.paper.specs.Answers.{Out, out, not-allowed, not-sound, not-held, list-length}
+use Rattle.paper.specs.Answers.{Out, out, not-allowed, not-sound, not-held, list-length, no-layout}
 use Rattle.paper.specs.Allowed.{Allowed, allowed}
 use Rattle.paper.specs.Blocks.{State, blocks}
 use Rattle.paper.specs.Runs.{sumOf}
 use Rattle.paper.specs.Sheet.{write}
 use Rattle.paper.specs.Governed.{sheet}
 use Rattle.paper.specs.Sound.{Sound}
-use Rattle.paper.specs.Fresh.{fresh}
+use Rattle.paper.specs.Fresh.{fresh, layoutTop}
 use Rattle.paper.specs.Granting.{Result, take}
 use Rattle.paper.specs.GivingBack.{ask, giveBack}
 use Rattle.paper.specs.AskingAll.{allHeld, askOne}
@@ -52,9 +52,12 @@ unchanged bs k = out (Refused k) bs
 abbrev pub leaves : Result → List ℕ → Out
 leaves r bs = out (r .answer) (write (sheet (r .state)) bs)
 
--- "Laying out returns n", and reads nothing
-unfoldable pub layOutCall : List ℕ → Out
-layOutCall bs = when (allowed (length bs)) (out (Done (length bs)) (write (sheet (fresh 1 (length bs))) bs)) (unchanged bs not-allowed)
+-- "Laying out returns n", and reads nothing. "Refusals: 8 for a layout number other than 1 or 2, after 1." (request 2026-04)
+unfoldable pub laidOut : List ℕ → ℕ → Out
+laidOut bs t = if= t 0 (unchanged bs no-layout) (out (Done (length bs)) (write (sheet (fresh t (length bs))) bs))
+
+unfoldable pub layOutCall : List ℕ → ℕ → Out
+layOutCall bs layout = when (allowed (length bs)) (laidOut bs (layoutTop layout)) (unchanged bs not-allowed)
 
 abbrev pub inspectCall : Reading → List ℕ → Answer
 inspectCall r bs = byReading r Refused (λ s. Done (length bs))

@@ -1,7 +1,8 @@
 -- "Bytes of the pool": the governed words of a state, by address; src/layout.rt draws them. A header word has 8 bytes, and its high half is 0.
 use mathlib.Core.List.{List, [], _∷_}
 use mathlib.Core.Option.{Option, none, some}
-use Prim.Native.Nat.{ℕ, zero, suc, _+_, _-_, _*_, _/_, _%_, min}
+use Prim.Native.Nat.{ℕ, suc, _+_, _-_, _*_, _/_, _%_, min}
+use lib.Count.{trailingZeros}
 use Rattle.words.specs.Choice.{if=, if<}
 use Rattle.heads.specs.Links.{linkWord}
 use Rattle.paper.specs.Layout.{false-block, blocks-at, large, small-next-at, previous-at, next-at, level-at, chain-at}
@@ -29,14 +30,10 @@ abbrev pub link : ℕ → Option ℕ → Option ℕ
 link p none = none
 link p (some q) = some (linkWord p q)
 
--- how many of the low k bits of x are 0 below the lowest 1
-unfoldable pub zeros : ℕ → ℕ → ℕ
-zeros zero x = 0
-zeros (suc k) x = if= (x % 2) 1 0 (suc (zeros k (x / 2)))
-
--- up to which level the bin of size z stands in an index t high
+-- "A bin's first block has height 1 plus the trailing zero bits of size / 8, at most 13" (request 2026-04): up to which level the bin of size z
+-- stands in an index t high. In layout 1, where t is 1, that is 1.
 unfoldable pub height : ℕ → ℕ → ℕ
-height t z = min t (suc (zeros 13 (z / 8)))
+height t z = min t (suc (trailingZeros 32 (z / 8)))
 
 -- ---- the words of a block. t: how high the index is; n: no size is larger
 

@@ -38,6 +38,10 @@ level-at = 12
 abbrev pub chain-at : ℕ
 chain-at = 64
 
+-- how many levels the index of layout 2 has
+abbrev pub levels : ℕ
+levels = 13
+
 -- "b of 72 or more is large"
 abbrev pub large : ℕ
 large = 72

@@ -5,7 +5,8 @@ use mathlib.Core.List.{List, [], _∷_}
 use Prim.Native.Nat.{ℕ, _+_, _%_, _≤_}
 use lib.ListN.{length}
 use Rattle.words.specs.Choice.{if=}
-use Rattle.paper.specs.Layout.{large, blocks-at}
+use Rattle.words.specs.Words.{wordAt}
+use Rattle.paper.specs.Layout.{large, blocks-at, false-block, level-at}
 use Rattle.paper.specs.Allowed.{Allowed}
 use Rattle.paper.specs.Blocks.{held, free, remainder, Block, block, State, size, blocks, end}
 use Rattle.paper.specs.Bins.{count}
@@ -51,15 +52,19 @@ pub record WellFormed (s : State) : Type 0 where
   pub fits : end s ≤ 65536
   pub listed : (y q : ℕ) → count q (s .bins y) ≡ freeAt (blocks s) blocks-at y q
 
--- sound, with an index t high: the blocks and lists are those of `state`, which the bytes determine
-pub record SoundTo (t : ℕ) (bs : List ℕ) : Type 0 where
+-- the blocks and lists are those of `state`, which the bytes determine; it tells the layout
+pub record Sound (bs : List ℕ) : Type 0 where
   pub length-allowed : Allowed (length bs)
   pub state : State
   pub well-formed : WellFormed state
   pub ends : end state ≡ length bs
   pub holds : Holds (sheet state) bs
-  pub is-top : state .top ≡ t
 
--- of layout 1
-abbrev pub Sound : List ℕ → Type 0
-Sound bs = SoundTo 1 bs
+-- "The false block's level word tells the layouts apart" (request 2026-04)
+abbrev pub levelWord : List ℕ → ℕ
+levelWord bs = wordAt 4 bs (false-block + level-at)
+
+-- sound, of one layout alone, which has an index t high
+pub record SoundTo (t : ℕ) (bs : List ℕ) : Type 0 where
+  pub is-sound : Sound bs
+  pub is-top : is-sound .state .top ≡ t

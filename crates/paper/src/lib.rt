@@ -9,6 +9,7 @@ pub use layout::FALSE_WORD;
 pub use layout::FREE_WORD;
 pub use layout::LARGE;
 pub use layout::LEVEL;
+pub use layout::LEVELS;
 pub use layout::NEXT;
 pub use layout::PREVIOUS;
 pub use layout::SMALL_BINS;
@@ -60,3 +61,5 @@ pub const NOT_HELD: u8 = 5;
 pub const LIST_LENGTH: u8 = 6;
 
 pub const UNREADABLE: u8 = 7;
+
+pub const NO_LAYOUT: u8 = 8;

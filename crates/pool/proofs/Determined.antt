@@ -16,8 +16,8 @@ same-answer : {A : Type 0} (x r r' : A) → r ≡ x → r' ≡ x → r ≡ r'
 same-answer x r r' e f = e ∙ sym f
 
 module _ (bs : List ℕ) where
-  pub lay-out-determined : (r r' : Answer) (a a' : List ℕ) → layOut bs ≡ out r a → layOut bs ≡ out r' a' → (r ≡ r') × (a ≡ a')
-  lay-out-determined = same-outcome (layOut bs)
+  pub lay-out-determined : (layout : ℕ) (r r' : Answer) (a a' : List ℕ) → layOut bs layout ≡ out r a → layOut bs layout ≡ out r' a' → (r ≡ r') × (a ≡ a')
+  lay-out-determined layout = same-outcome (layOut bs layout)
 
   pub inspect-determined : (r r' : Answer) → r ≡ inspect bs → r' ≡ inspect bs → r ≡ r'
   inspect-determined = same-answer (inspect bs)

@@ -13,7 +13,8 @@ use Rattle.paper.specs.declared.Tally.the-variants.{Refused as Uncounted}
 use Rattle.paper.specs.Allowed.{allowed}
 use Rattle.paper.specs.Answers.{Out, out, number, value, tally-number, figures-of, sevenOf}
 use Rattle.paper.specs.Blocks.{State}
-use Rattle.paper.specs.Calls.{Reading, misfit, broken, sound, layOutCall, takeCall, giveBackCall, classCount as classCountOf, classCountCall}
+use Rattle.paper.specs.Calls.{Reading, misfit, broken, sound, laidOut, layOutCall, takeCall, giveBackCall, classCount as classCountOf, classCountCall}
+use Rattle.paper.specs.Fresh.{layoutTop}
 use Rattle.paper.specs.Governed.{sheet}
 use Rattle.paper.specs.Sheet.{Holds, write}
 use Rattle.paper.proofs.keeps.BackKeeps.{giveBack-refused}
@@ -25,15 +26,15 @@ use Rattle.reading.proofs.Asked.{read-sound}
 
 -- a public call on a pool of lent bytes, with its number or its list
 pub data Call : Type 0 where
-  lays inspects : Call
-  takes gives asks : ℕ → Call
+  inspects : Call
+  lays takes gives asks : ℕ → Call
   asksAll : List ℕ → ℕ → Call
   counts : List ℕ → Call
 
 -- what the call is lent for writing: the pool, or its list of counters; a call that only reads leaves the pool as it is
 abbrev pub lent : List ℕ → Call → List ℕ
 lent bs (counts cs) = cs
-lent bs lays = bs
+lent bs (lays layout) = bs
 lent bs inspects = bs
 lent bs (takes size) = bs
 lent bs (gives offset) = bs
@@ -42,7 +43,7 @@ lent bs (asksAll offsets place) = bs
 
 -- what it answers, and what was lent afterwards
 abbrev pub outcome : List ℕ → Call → Out
-outcome bs lays = layOut bs
+outcome bs (lays layout) = layOut bs layout
 outcome bs inspects = out (inspect bs) bs
 outcome bs (takes size) = take bs size
 outcome bs (gives offset) = giveBack bs offset
@@ -57,12 +58,17 @@ Unchanged bs o = (k : ℕ) → o .answer ≡ Refused k → o .after ≡ bs
 done-unchanged : (bs : List ℕ) (v : ℕ) (after : List ℕ) → Unchanged bs (out (Done v) after)
 done-unchanged bs v after k e = absurd (let z : _≡_ {A = ℕ} 0 1 = cc in omega arith)
 
-lays-unchanged : (bs : List ℕ) → Unchanged bs (layOut bs)
-unfolding layOut layOutCall
-lays-unchanged bs = go (allowed (length bs)) refl
+lays-unchanged : (bs : List ℕ) (layout : ℕ) → Unchanged bs (layOut bs layout)
+unfolding layOut layOutCall laidOut
+lays-unchanged bs layout = go (allowed (length bs)) refl
   where
-    go : (b : Bool) → allowed (length bs) ≡ b → Unchanged bs (layOutCall bs)
-    go true e = rw (when-yes (allowed (length bs)) _ _ e) (done-unchanged bs _ _)
+    by-top : Unchanged bs (laidOut bs (layoutTop layout))
+    by-top =
+        by= (layoutTop layout) 0 (λ z. rw (if=-yes (layoutTop layout) 0 _ _ z) (λ k f. refl))
+        (λ n. rw (if=-no (layoutTop layout) 0 _ _ n) (done-unchanged bs _ _))
+
+    go : (b : Bool) → allowed (length bs) ≡ b → Unchanged bs (layOutCall bs layout)
+    go true e = rw (when-yes (allowed (length bs)) _ _ e) by-top
     go false e = rw (when-no (allowed (length bs)) _ _ e) (λ k f. refl)
 
 -- the state of a sound pool, written over it, is the pool
@@ -89,7 +95,7 @@ counts-unchanged cs (sound s) =
 
 stays : (bs : List ℕ) (c : Call) → Unchanged (lent bs c) (outcome bs c)
 unfolding take giveBack classCount
-stays bs lays = lays-unchanged bs
+stays bs (lays layout) = lays-unchanged bs layout
 stays bs inspects = λ k e. refl
 stays bs (takes size) = takes-unchanged bs size (read bs) refl
 stays bs (gives offset) = gives-unchanged bs offset (read bs) refl

@@ -10,8 +10,8 @@ use Rattle.paper.specs.Answers.{Out}
 use Rattle.paper.specs.Calls.{layOutCall, inspectCall, takeCall, giveBackCall, askCall, askAllCall, lendFrom, lendTo, figuresCall, classCountCall}
 use Rattle.reading.specs.Read.{read}
 
-unfoldable pub layOut : List ℕ → Out
-layOut bs = layOutCall bs
+unfoldable pub layOut : List ℕ → ℕ → Out
+layOut bs layout = layOutCall bs layout
 
 unfoldable pub inspect : List ℕ → Answer
 inspect bs = inspectCall (read bs) bs

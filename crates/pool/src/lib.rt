@@ -10,15 +10,19 @@ ghost use Rattle.pool.specs.Calls as call;
 use paper::Answer;
 use paper::Tally;
 
-// Lays the buffer out as a fresh pool; answers its length.
-pub fn lay_out(pool: &mut [u8]) -> Answer
-    ensures { λ r. ⌜ call.layOut (now (pool .entry)) ≡ out r (now (pool .exit)) ⌝ }
+// Lays the buffer out as a fresh pool, in layout 1 or 2; answers its length.
+pub fn lay_out(pool: &mut [u8], layout: u32) -> Answer
+    ensures { λ r. ⌜ call.layOut (now (pool .entry)) layout ≡ out r (now (pool .exit)) ⌝ }
 {
     let n = pool.len();
     if !reading::allowed(n) {
         return Answer::Refused(paper::NOT_ALLOWED);
     }
-    serving::lay_out(pool, n as u32);
+    let top = laying::top_of(layout);
+    if top == 0 {
+        return Answer::Refused(paper::NO_LAYOUT);
+    }
+    serving::lay_out(pool, n as u32, top);
     Answer::Done(n as u32)
 }
 

@@ -49,9 +49,10 @@ fn image(buffer: &mut [u8]) -> Next {
     goes_on(n, ended(output::line(b'I', Answer::Done(k))))
 }
 
-// T, G, A: a call with one number.
+// M, T, G, A: a call with one number.
 fn with_number(pool: &mut [u8], letter: u8, v: u32) -> bool {
     match letter {
+        b'M' => output::line(b'M', pool::lay_out(pool, v)),
         b'T' => output::line(b'T', pool::take(pool, v)),
         b'G' => output::line(b'G', pool::give_back(pool, v)),
         b'A' => output::line(b'A', pool::ask(pool, v)),
@@ -149,13 +150,13 @@ fn dump(pool: &[u8]) -> bool {
 // A command on the pool.
 fn on_pool(pool: &mut [u8], body: &mut [u8], bank: &mut [u32; 32], letter: u8) -> Outcome {
     match letter {
-        b'L' => ended(output::line(b'L', pool::lay_out(pool))),
+        b'L' => ended(output::line(b'L', pool::lay_out(pool, 1))),
         b'N' => ended(output::line(b'N', pool::inspect(pool))),
         b'S' => ended(output::tally(pool::figures(pool))),
         b'D' => ended(dump(pool)),
         b'C' => classes(pool),
         b'W' => write_part(pool, body),
-        b'T' | b'G' | b'A' | b'P' => {
+        b'M' | b'T' | b'G' | b'A' | b'P' => {
             let Number::Of(v) = input::next_number() else {
                 return Outcome::Unreadable;
             };

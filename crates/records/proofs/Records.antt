@@ -8,7 +8,7 @@ use lib.ListN.{length, getD}
 use Rattle.words.specs.Choice.{if<-yes, if<-no, if=-yes, if=-no, by<, by=}
 use Rattle.words.specs.Words.{wordAt}
 use Rattle.records.specs.declared.request.Request.{Request}
-use Rattle.records.specs.declared.request.Request.the-variants.{LayOut, Take, GiveBack, Figures}
+use Rattle.records.specs.declared.request.Request.the-variants.{LayOut, LayOutIndexed, Take, GiveBack, Figures}
 use Rattle.records.specs.declared.request.Record.the-variants.{Whole, Unreadable}
 use Rattle.records.specs.Records.{kindOf, withBody, readAt}
 
@@ -43,13 +43,18 @@ module _ (tape : List ℕ) (at : ℕ) where
     unfolding withBody
     given a b d = rw e (sym (body h k l ∙ if=-no _ _ _ _ a ∙ if=-no _ _ _ _ b ∙ if=-yes _ _ _ _ d))
 
-    pub other : getD tape at 0 ≢ 1 → getD tape at 0 ≢ 2 → getD tape at 0 ≢ 3 → Unreadable ≡ readAt tape at
-    unfolding withBody
-    other a b d = sym (body h k l ∙ if=-no _ _ _ _ a ∙ if=-no _ _ _ _ b ∙ if=-no _ _ _ _ d)
+    module _ (a : getD tape at 0 ≢ 1) (b : getD tape at 0 ≢ 2) (d : getD tape at 0 ≢ 3) where
+      pub indexed : getD tape at 0 ≡ 5 → Whole (LayOutIndexed v) (at + 1 + 4) ≡ readAt tape at
+      unfolding withBody
+      indexed f = rw e (sym (body h k l ∙ if=-no _ _ _ _ a ∙ if=-no _ _ _ _ b ∙ if=-no _ _ _ _ d ∙ if=-yes _ _ _ _ f))
+
+      pub other : getD tape at 0 ≢ 5 → Unreadable ≡ readAt tape at
+      unfolding withBody
+      other f = sym (body h k l ∙ if=-no _ _ _ _ a ∙ if=-no _ _ _ _ b ∙ if=-no _ _ _ _ d ∙ if=-no _ _ _ _ f)
 
 -- ---- a whole record
 
-never : {request : Request} {next : ℕ} → Unreadable ≡ Whole request next → ⊥
+pub never : {request : Request} {next : ℕ} → Unreadable ≡ Whole request next → ⊥
 never e = let z : _≡_ {A = ℕ} 0 1 = cc in omega arith
 
 -- a whole record has its request's kind, and the next one stands past it and within the tape
@@ -74,7 +79,8 @@ body-is kind v m e =
     by= kind 1 (λ a. bodied (LayOut v) a (sym (if=-yes _ _ _ _ a) ∙ e))
     (λ a. by= kind 2 (λ b. bodied (Take v) b (sym (if=-no _ _ _ _ a ∙ if=-yes _ _ _ _ b) ∙ e))
     (λ b. by= kind 3 (λ d. bodied (GiveBack v) d (sym (if=-no _ _ _ _ a ∙ if=-no _ _ _ _ b ∙ if=-yes _ _ _ _ d) ∙ e))
-    (λ d. absurd (never (sym (if=-no _ _ _ _ a ∙ if=-no _ _ _ _ b ∙ if=-no _ _ _ _ d) ∙ e)))))
+    (λ d. by= kind 5 (λ f. bodied (LayOutIndexed v) f (sym (if=-no _ _ _ _ a ∙ if=-no _ _ _ _ b ∙ if=-no _ _ _ _ d ∙ if=-yes _ _ _ _ f) ∙ e))
+    (λ f. absurd (never (sym (if=-no _ _ _ _ a ∙ if=-no _ _ _ _ b ∙ if=-no _ _ _ _ d ∙ if=-no _ _ _ _ f) ∙ e))))))
 
 pub onward : (tape : List ℕ) (at : ℕ) {request : Request} {next : ℕ} → readAt tape at ≡ Whole request next → Onward tape at request next
 onward tape at {request} {next} e =

@@ -10,8 +10,12 @@ const GIVE_BACK: u8 = 3;
 
 const FIGURES: u8 = 4;
 
+const LAY_OUT_INDEXED: u8 = 5;
+
+// A lay out in layout 1, and one in layout 2, with the index; a take, a give-back, and the figures.
 pub enum Request {
     LayOut(u32),
+    LayOutIndexed(u32),
     Take(u32),
     GiveBack(u32),
     Figures,
@@ -46,6 +50,9 @@ pub fn read(tape: &[u8], at: usize) -> Record
     }
     if kind == GIVE_BACK {
         return Record::Whole(Request::GiveBack(number), body + 4);
+    }
+    if kind == LAY_OUT_INDEXED {
+        return Record::Whole(Request::LayOutIndexed(number), body + 4);
     }
     Record::Unreadable
 }

@@ -4,6 +4,3 @@ pub mod AskServes
 pub mod AskAllServes
 pub mod BackServes
 pub mod CountServes
-pub mod Clearing
-pub mod StoredSheet
-pub mod LaidOut

@@ -1,2 +1,1 @@
-pub mod LayingOut
 pub mod Models

@@ -17,7 +17,7 @@ use Rattle.walk.specs.Classes.{classCounts}
 unfoldable pub use Rattle.asking.specs.AllHeld.{allHeld}
 unfoldable pub use Rattle.grant.specs.Take.{take}
 unfoldable pub use Rattle.walk.specs.Tallies.{tally as figures}
-unfoldable pub use Rattle.serving.specs.LayingOut.{layOut}
+unfoldable pub use Rattle.laying.specs.LayingOut.{layOut}
 
 -- the size of the held block whose payload starts at the offset, by the block that the offset is in; or the refusal
 unfoldable pub heldThere : Found → ℕ → Answer

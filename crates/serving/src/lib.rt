@@ -1,10 +1,8 @@
 // The calls on a pool that is known to be sound: none of them inspects. Each is total, and on a pool that stands for a state it
 // gives the paper's answer and leaves a pool that stands for the state after (proofs/).
-mod laying_out;
-
 pub use asking::all_held;
 pub use grant::take;
-pub use laying_out::lay_out;
+pub use laying::lay_out;
 pub use walk::tally as figures;
 ghost use mathlib.Core.Path.{_≡_};
 ghost use Rattle.paper.specs.Answers.{out};

@@ -5,3 +5,4 @@ pub mod Leaves
 pub mod Determined
 pub mod States
 pub mod WorkedTape
+pub mod Alike

@@ -1,24 +1,24 @@
--- The lines of a run depend on blocks and lists alone: the same run over states prints them, whatever else stands in the buffer. The
--- pool of a run is empty or stands for a state, and each request keeps that.
+-- A run depends on blocks and lists alone: the same run over states prints its lines and has the state of its last pool, whatever else stands
+-- in the buffer. The pool of a run is empty or stands for a state, and each request keeps that.
 use mathlib.Core.Bool.{Bool, true, false}
-use mathlib.Core.List.{List, [], _∷_, _++_}
-use mathlib.Core.Logic.{inl}
+use mathlib.Core.List.{List, [], _∷_, _++_, append-nil}
+use mathlib.Core.Logic.{_≢_, _⊎_, inl, inr}
 use mathlib.Core.Option.{Option, none, some}
 use mathlib.Core.Path.{_≡_, refl, sym, ap, ap₂, _∙_, subst}
 use Prim.Native.Nat.{ℕ, zero, suc, _+_, _-_, _≤_, _<_}
 use native.Mathlib.Omega.{arith}
 use lib.ListN.{List·getD-append, List·getD-eq-default, getD, length, take as firstOf, drop, length-append, length-drop, take-append-drop}
 use lib.Seq.{getD-append-add, getD-drop, getD-take, length-take-le, take-at}
-use Rattle.words.specs.Choice.{if<, if<-yes, if<-no, when-yes, when-no, by<}
+use Rattle.words.specs.Choice.{if<, if<-yes, if<-no, if=, if=-no, when-yes, when-no, by<}
 use Rattle.words.specs.Words.{Bytes}
 use Rattle.paper.specs.declared.Answer.the-variants.{Done, Refused}
 use Rattle.paper.specs.declared.Tally.{Tally}
 use Rattle.paper.specs.Allowed.{Allowed, allowed}
-use Rattle.paper.specs.Answers.{Out, out, not-allowed, sevenOf}
+use Rattle.paper.specs.Answers.{Out, out, not-allowed, sevenOf, unreadable}
 use Rattle.paper.specs.Blocks.{State}
-use Rattle.paper.specs.Calls.{Reading, Reads, misfit, sound, layOutCall, takeCall, giveBackCall, figuresCall, leaves}
+use Rattle.paper.specs.Calls.{Reading, Reads, misfit, sound, layOutCall, takeCall, giveBackCall, figuresCall, leaves, laidOut as laidOutCall}
 use Rattle.paper.specs.Counting.{figures as figuresOf}
-use Rattle.paper.specs.Fresh.{fresh}
+use Rattle.paper.specs.Fresh.{fresh, layoutTop}
 use Rattle.paper.specs.GivingBack.{giveBack as giveBackOf}
 use Rattle.paper.specs.Governed.{sheet}
 use Rattle.paper.specs.Granting.{Result, take as takeOf}
@@ -38,11 +38,12 @@ use Rattle.pool.specs.Calls.{layOut, take, giveBack, figures}
 use Rattle.reading.specs.Read.{read}
 use Rattle.reading.proofs.Readings.{reads, reading-unique}
 use Rattle.records.specs.declared.request.Request.{Request}
-use Rattle.records.specs.declared.request.Request.the-variants.{LayOut, Take, GiveBack, Figures}
+use Rattle.records.specs.declared.request.Request.the-variants.{LayOut, LayOutIndexed, Take, GiveBack, Figures}
 use Rattle.records.specs.declared.request.Record.{Record}
 use Rattle.records.specs.declared.request.Record.the-variants.{Whole, Unreadable}
 use Rattle.records.specs.Records.{readAt}
 use Rattle.lines.specs.Lines.{lineOf, answered, tallied, letterOf}
+use Rattle.tape.specs.Alike.{Line, line, printed}
 use Rattle.tape.specs.Run.{Run, byRecord, longest, run, runFrom, runOf, then, x-line}
 use Rattle.tape.proofs.First.{in-the-buffer, past-the-buffer}
 use Rattle.tape.specs.Serve.{Pool, Outcome, answers, figuresFirst, laidOut, onFirst, pool, serve}
@@ -54,18 +55,23 @@ pub record Step : Type 0 where
   pub after : Option State
   pub numbers : List ℕ
 
-abbrev result : Result → Step
+abbrev pub result : Result → Step
 result r = record { after = some (r .state); numbers = answered (r .answer) }
 
 abbrev refusedBy : ℕ → Option State → Step
 refusedBy k m = record { after = m; numbers = k ∷ 0 ∷ [] }
 
-abbrev layState : Bool → ℕ → Option State → Step
-layState true new m = record { after = some (fresh 1 new); numbers = 0 ∷ new ∷ [] }
-layState false new m = refusedBy not-allowed m
+-- with an index t high
+abbrev pub layState : ℕ → Bool → ℕ → Option State → Step
+layState t true new m = record { after = some (fresh t new); numbers = 0 ∷ new ∷ [] }
+layState t false new m = refusedBy not-allowed m
+
+unfoldable pub laidState : ℕ → ℕ → ℕ → Option State → Step
+laidState room t new m = if< room new (refusedBy not-allowed m) (layState t (allowed new) new m)
 
 unfoldable pub serveState : ℕ → Option State → Request → Step
-serveState room m (LayOut new) = if< room new (refusedBy not-allowed m) (layState (allowed new) new m)
+serveState room m (LayOut new) = laidState room 1 new m
+serveState room m (LayOutIndexed new) = laidState room 13 new m
 serveState room none (Take size) = refusedBy not-allowed none
 serveState room (some s) (Take size) = result (takeOf s size)
 serveState room none (GiveBack offset) = refusedBy not-allowed none
@@ -73,20 +79,31 @@ serveState room (some s) (GiveBack offset) = result (giveBackOf s offset)
 serveState room none Figures = refusedBy not-allowed none
 serveState room (some s) Figures = record { after = some s; numbers = 0 ∷ sevenOf (figuresOf s) }
 
-abbrev linesOf : Record → (Request → ℕ → List ℕ) → List ℕ → List ℕ
-linesOf (Whole request next) served stopped = served request next
-linesOf Unreadable served stopped = stopped
+-- the lines, and what the pool stands for in the end
+pub record States : Type 0 where
+  pub lines : List Line
+  pub last : Option State
 
-unfoldable pub linesFrom : (room left : ℕ) (tape : List ℕ) (at nth : ℕ) → Option State → List ℕ
-linesFrom room zero tape at nth m = []
-linesFrom room (suc left) tape at nth m =
+abbrev pub states : List Line → Option State → States
+states lines last = record { lines = lines; last = last }
+
+abbrev pub statesOf : Record → (Request → ℕ → States) → States → States
+statesOf (Whole request next) served stopped = served request next
+statesOf Unreadable served stopped = stopped
+
+-- a line, and what comes after it
+abbrev pub thenStates : Line → States → States
+thenStates l r = states (l ∷ r .lines) (r .last)
+
+unfoldable pub statesFrom : (room left : ℕ) (tape : List ℕ) (at : ℕ) → Option State → States
+statesFrom room zero tape at m = states [] m
+statesFrom room (suc left) tape at m =
     if< at (length tape)
-    (linesOf (readAt tape at)
+    (statesOf (readAt tape at)
     (λ request next.
-    lineOf nth (letterOf request) (serveState room m request .numbers)
-    ++ linesFrom room left tape next (nth + 1) (serveState room m request .after))
-    (x-line nth))
-    []
+    thenStates (line (letterOf request) (serveState room m request .numbers)) (statesFrom room left tape next (serveState room m request .after)))
+    (states (line 88 (unreadable ∷ 0 ∷ []) ∷ []) m))
+    (states [] m)
 
 -- ---- the pool of a run stands for what the run over states has
 
@@ -185,46 +202,51 @@ agrees-by : (room : ℕ) (p : Pool) (m : Option State) (request : Request) (o : 
 agrees-by room p m request o t e f g h =
     record { same = ap (λ (x : Outcome). x .numbers) e ∙ g ∙ sym (ap (λ (x : Step). x .numbers) f); kept = rw (e, f) h }
 
-module _ (room : ℕ) (p : Pool) (m : Option State) (S : StandsFor room p m) where
-  same-pool : StandsFor room (pool (p .n) (p .buffer)) m
-  same-pool = S
+-- a lay out, in either layout
+module _ (room : ℕ) (p : Pool) (m : Option State) (S : StandsFor room p m) (layout t : ℕ) (is-t : layoutTop layout ≡ t) (tops : (t ≡ 1) ⊎ (t ≡ 13))
+    (request : Request) (new : ℕ) (served : serve p request ≡ laidOut new (p .n) (onFirst (λ s. layOut s layout) new (p .buffer)))
+    (stated : serveState room m request ≡ laidState room t new m) where
+  abbrev lay : List ℕ → Out
+  lay s = layOut s layout
 
   -- "A refused L keeps the old pool."
-  lay-out-refused : (new : ℕ) → onFirst layOut new (p .buffer) ≡ out (Refused not-allowed) (p .buffer)
-      → serveState room m (LayOut new) ≡ refusedBy not-allowed m
-      → Agrees room p m (LayOut new)
-  unfolding serve
-  lay-out-refused new e f =
-      agrees-by room p m (LayOut new) (answers (p .n) (out (Refused not-allowed) (p .buffer))) (refusedBy not-allowed m)
-      (ap (laidOut new (p .n)) e) f refl S
+  lay-out-refused : onFirst lay new (p .buffer) ≡ out (Refused not-allowed) (p .buffer) → laidState room t new m ≡ refusedBy not-allowed m
+      → Agrees room p m request
+  lay-out-refused e f =
+      agrees-by room p m request (answers (p .n) (out (Refused not-allowed) (p .buffer))) (refusedBy not-allowed m)
+      (served ∙ ap (laidOut new (p .n)) e) (stated ∙ f) refl S
 
-  lay-out-agrees : (new : ℕ) → Agrees room p m (LayOut new)
-  unfolding serve serveState layOut layOutCall fresh
-  lay-out-agrees new =
+  some-top : (t ≡ 1) ⊎ (t ≡ 13) → layoutTop layout ≢ 0
+  some-top (inl e) = omega arith
+  some-top (inr e) = omega arith
+
+  lay-out-agrees : Agrees room p m request
+  unfolding laidState layOut layOutCall laidOutCall
+  lay-out-agrees =
       by< room new
-      (λ l. lay-out-refused new (past-the-buffer layOut new (p .buffer) (omega (arith, S .long))) (if<-yes room new _ _ l))
+      (λ l. lay-out-refused (past-the-buffer lay new (p .buffer) (omega (arith, S .long))) (if<-yes room new _ _ l))
       (λ l. go (allowed new) refl (omega (arith, S .long)) (if<-no room new _ _ l))
     where
-      go : (b : Bool) → allowed new ≡ b → new ≤ length (p .buffer)
-          → serveState room m (LayOut new) ≡ layState (allowed new) new m
-          → Agrees room p m (LayOut new)
+      go : (b : Bool) → allowed new ≡ b → new ≤ length (p .buffer) → laidState room t new m ≡ layState t (allowed new) new m → Agrees room p m request
       go false e l f =
           let k : length (firstOf new (p .buffer)) ≡ new = length-take-le new (p .buffer) l in
-          lay-out-refused new
-          (in-the-buffer layOut new (p .buffer) l (when-no (allowed (length (firstOf new (p .buffer)))) _ _ (ap allowed k ∙ e))
+          lay-out-refused
+          (in-the-buffer lay new (p .buffer) l (when-no (allowed (length (firstOf new (p .buffer)))) _ _ (ap allowed k ∙ e))
           ∙ ap (out (Refused not-allowed)) (take-append-drop new (p .buffer)))
-          (f ∙ ap (λ (b : Bool). layState b new m) e)
+          (f ∙ ap (λ (b : Bool). layState t b new m) e)
       go true e l f =
           let bs : List ℕ = firstOf new (p .buffer) in
           let k : length bs ≡ new = length-take-le new (p .buffer) l in
           let a : Allowed new = allowed-inv new e in
-          let g : layOut bs ≡ out (Done new) (write (sheet (fresh 1 new)) bs) =
-          when-yes (allowed (length bs)) _ _ (ap allowed k ∙ e) ∙ ap (λ (j : ℕ). out (Done j) (write (sheet (fresh 1 j)) bs)) k in
-          agrees-by room p m (LayOut new)
-          (answers new (out (Done new) (write (sheet (fresh 1 new)) bs ++ drop new (p .buffer)))) (layState true new m)
-          (ap (laidOut new (p .n)) (in-the-buffer layOut new (p .buffer) l g)) (f ∙ ap (λ (b : Bool). layState b new m) e) refl
-          (written-for room new (p .buffer) (fresh 1 new) (S .bytes) (S .long) l
-          (write-stands (fresh 1 new) (fresh-well-formed 1 new a (inl refl)) refl bs (fresh-ends 1 new a ∙ sym k)))
+          let g : lay bs ≡ out (Done new) (write (sheet (fresh t new)) bs) =
+          when-yes (allowed (length bs)) _ _ (ap allowed k ∙ e) ∙ if=-no (layoutTop layout) 0 _ _ (some-top tops)
+          ∙ ap (λ (u : ℕ). out (Done (length bs)) (write (sheet (fresh u (length bs))) bs)) is-t
+          ∙ ap (λ (j : ℕ). out (Done j) (write (sheet (fresh t j)) bs)) k in
+          agrees-by room p m request
+          (answers new (out (Done new) (write (sheet (fresh t new)) bs ++ drop new (p .buffer)))) (layState t true new m)
+          (served ∙ ap (laidOut new (p .n)) (in-the-buffer lay new (p .buffer) l g)) (stated ∙ f ∙ ap (λ (b : Bool). layState t b new m) e) refl
+          (written-for room new (p .buffer) (fresh t new) (S .bytes) (S .long) l
+          (write-stands (fresh t new) (fresh-well-formed t new a tops) bs (fresh-ends t new a ∙ sym k)))
 
 -- of an empty pool
 module _ (room : ℕ) (p : Pool) (S : StandsFor room p none) where
@@ -283,8 +305,10 @@ module _ (room : ℕ) (p : Pool) (s : State) (S : StandsFor room p (some s)) whe
       (if<-no (length (p .buffer)) (p .n) _ _ (S .for .0) ∙ ap figuresCall (reads-state room p s S)))
       refl refl S
 
-agrees : (room : ℕ) (p : Pool) (m : Option State) → StandsFor room p m → (request : Request) → Agrees room p m request
-agrees room p m S (LayOut new) = lay-out-agrees room p m S new
+pub agrees : (room : ℕ) (p : Pool) (m : Option State) → StandsFor room p m → (request : Request) → Agrees room p m request
+unfolding serve serveState layoutTop if=
+agrees room p m S (LayOut new) = lay-out-agrees room p m S 1 1 refl (inl refl) (LayOut new) new refl refl
+agrees room p m S (LayOutIndexed new) = lay-out-agrees room p m S 2 13 refl (inr refl) (LayOutIndexed new) new refl refl
 agrees room p none S (Take size) = take-none room p S size
 agrees room p (some s) S (Take size) = take-some room p s S size
 agrees room p none S (GiveBack offset) = give-back-none room p S offset
@@ -294,38 +318,47 @@ agrees room p (some s) S Figures = figures-some room p s S
 
 -- ---- a run
 
+-- a run prints the lines of the run over states, numbered from nth on, and ends in a pool that stands for its last state
+pub record RunAgrees (room nth : ℕ) (r : Run) (q : States) : Type 0 where
+  pub same : r .text ≡ printed nth (q .lines)
+  pub stands : StandsFor room (r .last) (q .last)
+
+run-agrees-by : (room nth : ℕ) (r r' : Run) (q q' : States) → r ≡ r' → q ≡ q' → RunAgrees room nth r' q' → RunAgrees room nth r q
+run-agrees-by room nth r r' q q' e f a = subst (λ (x : Run). RunAgrees room nth x q) (sym e) (subst (RunAgrees room nth r') (sym f) a)
+
 -- one record, where the run agrees from the next place on
 record-agrees : (room left : ℕ) (tape : List ℕ) (nth : ℕ) (p : Pool) (m : Option State) → StandsFor room p m
-    → ((at nth : ℕ) (p : Pool) (m : Option State) → StandsFor room p m → runFrom left tape at nth p .text ≡ linesFrom room left tape at nth m)
+    → ((at nth : ℕ) (p : Pool) (m : Option State) → StandsFor room p m → RunAgrees room nth (runFrom left tape at nth p) (statesFrom room left tape at m))
     → (x : Record)
-    → byRecord x
+    → RunAgrees room nth
+    (byRecord x
     (λ request next. then (lineOf nth (letterOf request) (serve p request .numbers)) (runFrom left tape next (nth + 1) (serve p request .after)))
-    (run (x-line nth) p) .text
-    ≡ linesOf x
+    (run (x-line nth) p))
+    (statesOf x
     (λ request next.
-    lineOf nth (letterOf request) (serveState room m request .numbers)
-    ++ linesFrom room left tape next (nth + 1) (serveState room m request .after))
-    (x-line nth)
-record-agrees room left tape nth p m S on Unreadable = refl
+    thenStates (line (letterOf request) (serveState room m request .numbers)) (statesFrom room left tape next (serveState room m request .after)))
+    (states (line 88 (unreadable ∷ 0 ∷ []) ∷ []) m))
+unfolding printed
+record-agrees room left tape nth p m S on Unreadable = record { same = sym (append-nil (x-line nth)); stands = S }
 record-agrees room left tape nth p m S on (Whole request next) =
     let g = agrees room p m S request in
-    ap₂ (λ (a b : List ℕ). a ++ b) (ap (lineOf nth (letterOf request)) (g .same))
-    (on next (nth + 1) (serve p request .after) (serveState room m request .after) (g .kept))
+    let r = on next (nth + 1) (serve p request .after) (serveState room m request .after) (g .kept) in
+    record { same = ap₂ (λ (a b : List ℕ). a ++ b) (ap (lineOf nth (letterOf request)) (g .same)) (r .same); stands = r .stands }
 
 pub run-by-states : (room left : ℕ) (tape : List ℕ) (at nth : ℕ) (p : Pool) (m : Option State) → StandsFor room p m
-    → runFrom left tape at nth p .text ≡ linesFrom room left tape at nth m
-unfolding runFrom linesFrom
-run-by-states room zero tape at nth p m S = refl
+    → RunAgrees room nth (runFrom left tape at nth p) (statesFrom room left tape at m)
+unfolding runFrom statesFrom printed
+run-by-states room zero tape at nth p m S = record { same = refl; stands = S }
 run-by-states room (suc left) tape at nth p m S =
     let on = record-agrees room left tape nth p m S (run-by-states room left tape) (readAt tape at) in
     by< at (length tape)
-    (λ l. ap (λ (r : Run). r .text) (if<-yes at (length tape) _ _ l) ∙ on ∙ sym (if<-yes at (length tape) _ _ l))
-    (λ l. ap (λ (r : Run). r .text) (if<-no at (length tape) _ _ l) ∙ sym (if<-no at (length tape) _ _ l))
+    (λ l. run-agrees-by room nth _ _ _ _ (if<-yes at (length tape) _ _ l) (if<-yes at (length tape) _ _ l) on)
+    (λ l. run-agrees-by room nth _ _ _ _ (if<-no at (length tape) _ _ l) (if<-no at (length tape) _ _ l) (record { same = refl; stands = S }))
 
--- the lines of a whole tape that is not too long, whatever stands in the buffer
-pub lines-by-states : (tape buffer : List ℕ) → Bytes buffer → length tape ≤ longest
-    → runOf tape buffer .text ≡ linesFrom (length buffer) (length tape) tape 0 1 none
+-- a whole tape that is not too long, whatever stands in the buffer
+pub tape-by-states : (tape buffer : List ℕ) → Bytes buffer → length tape ≤ longest
+    → RunAgrees (length buffer) 1 (runOf tape buffer) (statesFrom (length buffer) (length tape) tape 0 none)
 unfolding runOf
-lines-by-states tape buffer h l =
-    ap (λ (r : Run). r .text) (if<-no longest (length tape) _ _ l)
-    ∙ run-by-states (length buffer) (length tape) tape 0 1 (pool 0 buffer) none (record { bytes = h; long = refl; for = refl })
+tape-by-states tape buffer h l =
+    run-agrees-by (length buffer) 1 _ _ _ _ (if<-no longest (length tape) _ _ l) refl
+    (run-by-states (length buffer) (length tape) tape 0 1 (pool 0 buffer) none (record { bytes = h; long = refl; for = refl }))

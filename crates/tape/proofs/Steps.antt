@@ -6,21 +6,28 @@ use Rattle.paper.specs.Answers.{Out, out}
 use Rattle.paper.specs.declared.Answer.{Answer}
 use Rattle.paper.specs.declared.Tally.{Tally}
 use Rattle.pool.specs.Calls.{layOut, take, giveBack}
-use Rattle.records.specs.declared.request.Request.the-variants.{LayOut, Take, GiveBack, Figures}
+use Rattle.records.specs.declared.request.Request.the-variants.{LayOut, LayOutIndexed, Take, GiveBack, Figures}
 use Rattle.lines.specs.Lines.{lineOf, answered, tallied, Printed, letterOf}
 use Rattle.tape.specs.Serve.{pool, onFirst, figuresFirst, accepted, serve}
 use Rattle.tape.specs.Step.{Stepped}
 
+-- the pool after a lay out, in either layout
+kept-pool : (n new m : ℕ) (a : Answer) (after : List ℕ) (o : Out) → o ≡ out a after → m ≡ accepted a new n
+    → pool (accepted (o .answer) new n) (o .after) ≡ pool m after
+kept-pool n new m a after o e f = ap (λ (o : Out). pool (accepted (o .answer) new n) (o .after)) e ∙ ap (λ (k : ℕ). pool k after) (sym f)
+
 module _ {n nth at next : ℕ} {buffer before page : List ℕ} where
-  pub laid-out : {a : Answer} {after : List ℕ} {m : ℕ} (new : ℕ) → onFirst layOut new buffer ≡ out a after → m ≡ accepted a new n
+  pub laid-out : {a : Answer} {after : List ℕ} {m : ℕ} (new : ℕ) → onFirst (λ s. layOut s 1) new buffer ≡ out a after → m ≡ accepted a new n
       → Printed at before (lineOf nth (letterOf (LayOut new)) (answered a)) next page
       → Stepped (pool n buffer) (LayOut new) nth at before m after next page
   unfolding serve
-  laid-out {after = after} new e f h =
-      record {
-        kept = ap (λ (o : Out). pool (accepted (o .answer) new n) (o .after)) e ∙ ap (λ (k : ℕ). pool k after) (sym f);
-        printed = rw e h;
-      }
+  laid-out {a} {after} {m} new e f h = record { kept = kept-pool n new m a after _ e f; printed = rw e h }
+
+  pub laid-out-indexed : {a : Answer} {after : List ℕ} {m : ℕ} (new : ℕ) → onFirst (λ s. layOut s 2) new buffer ≡ out a after → m ≡ accepted a new n
+      → Printed at before (lineOf nth (letterOf (LayOutIndexed new)) (answered a)) next page
+      → Stepped (pool n buffer) (LayOutIndexed new) nth at before m after next page
+  unfolding serve
+  laid-out-indexed {a} {after} {m} new e f h = record { kept = kept-pool n new m a after _ e f; printed = rw e h }
 
   pub taken : {a : Answer} {after : List ℕ} (size : ℕ) → onFirst (λ s. take s size) n buffer ≡ out a after
       → Printed at before (lineOf nth (letterOf (Take size)) (answered a)) next page

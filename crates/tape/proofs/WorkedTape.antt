@@ -26,8 +26,9 @@ use Rattle.paper.specs.LookingUp.{blockAt, lookUp}
 use Rattle.paper.specs.Runs.{endsAt, from, replace, startsAt, sumOf, under}
 use Rattle.records.specs.Records.{readAt, withBody}
 use Rattle.lines.specs.Lines.{beginOf, lineOf, restOf}
+use Rattle.tape.specs.Alike.{printed}
 use Rattle.tape.specs.Run.{runOf}
-use Rattle.tape.proofs.States.{lines-by-states, linesFrom, serveState}
+use Rattle.tape.proofs.States.{laidState, serveState, statesFrom, tape-by-states}
 
 -- L 1024, T 10, T 100, T 61, T 200, G 172, T 32, T 72, G 172, G 276, T 100, G 556, S: a row each
 pub worked : List ℕ
@@ -75,8 +76,8 @@ abbrev lastLine : Figures → List ℕ
 lastLine f = lineOf 13 83 (0 ∷ sevenOf f) ++ []
 
 -- the run over states, up to the figures of its last state
-computed : linesFrom 65536 (length worked) worked 0 1 none ≡ first-lines ++ lastLine (figures (last (fresh 1 1024) requests))
-unfolding worked first-lines requests if< if= when wordAt digitsAt blockSize numeral numeralWith allowed enter first leave rebin seek used fresh giveBack giveBackLarge giveBackSmall left settle blockAt lookUp choose chooseLarge chooseSmall cutHigh cutLow smallestBin take takeFirst takePart takeWhole endsAt from replace startsAt sumOf under beginOf lineOf restOf readAt withBody linesFrom serveState
+computed : printed 1 (statesFrom 65536 (length worked) worked 0 none .lines) ≡ first-lines ++ lastLine (figures (last (fresh 1 1024) requests))
+unfolding worked first-lines requests if< if= when wordAt digitsAt blockSize numeral numeralWith allowed enter first leave rebin seek used fresh giveBack giveBackLarge giveBackSmall left settle blockAt lookUp choose chooseLarge chooseSmall cutHigh cutLow smallestBin take takeFirst takePart takeWhole endsAt from replace startsAt sumOf under beginOf lineOf restOf readAt withBody statesFrom serveState laidState printed
 computed = refl
 
 last-line : lastLine (figures (last (fresh 1 1024) requests)) ≡ line "13 S 0 4 368 0 1 416 484 404"
@@ -86,5 +87,5 @@ last-line = ap lastLine worked-figures
 pub worked-tape : (buffer : List ℕ) → Bytes buffer → length buffer ≡ 65536 → runOf worked buffer .text ≡ worked-lines
 unfolding worked worked-lines
 worked-tape buffer h l =
-    lines-by-states worked buffer h (omega arith) ∙ ap (λ (room : ℕ). linesFrom room (length worked) worked 0 1 none) l ∙ computed
+    tape-by-states worked buffer h (omega arith) .same ∙ ap (λ (room : ℕ). printed 1 (statesFrom room (length worked) worked 0 none .lines)) l ∙ computed
     ∙ ap (λ (text : List ℕ). first-lines ++ text) last-line

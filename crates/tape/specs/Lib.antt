@@ -1,3 +1,4 @@
 pub mod Serve
 pub mod Step
 pub mod Run
+pub mod Alike

@@ -1,5 +1,6 @@
 -- What a request does to the run's pool, and which numbers it prints.
 -- "Before the first accepted L the pool is empty (n = 0). A refused L keeps the old pool. Its buffer starts as zeros."
+-- "Tape kind 5 lays out layout 2" (request 2026-04).
 use mathlib.Core.List.{List, _++_}
 use Prim.Native.Nat.{ℕ}
 use lib.ListN.{length, take as firstOf, drop}
@@ -11,7 +12,7 @@ use Rattle.paper.specs.declared.Tally.{Tally}
 use Rattle.paper.specs.declared.Tally.the-variants.{Refused as Uncounted}
 use Rattle.pool.specs.Calls.{layOut, take, giveBack, figures}
 use Rattle.records.specs.declared.request.Request.{Request}
-use Rattle.records.specs.declared.request.Request.the-variants.{LayOut, Take, GiveBack, Figures}
+use Rattle.records.specs.declared.request.Request.the-variants.{LayOut, LayOutIndexed, Take, GiveBack, Figures}
 use Rattle.lines.specs.Lines.{answered, tallied}
 
 -- the run's pool is the first n bytes of its buffer
@@ -50,7 +51,8 @@ abbrev pub laidOut : (new old : ℕ) → Out → Outcome
 laidOut new old o = answers (accepted (o .answer) new old) o
 
 unfoldable pub serve : Pool → Request → Outcome
-serve p (LayOut new) = laidOut new (p .n) (onFirst layOut new (p .buffer))
+serve p (LayOut new) = laidOut new (p .n) (onFirst (λ s. layOut s 1) new (p .buffer))
+serve p (LayOutIndexed new) = laidOut new (p .n) (onFirst (λ s. layOut s 2) new (p .buffer))
 serve p (Take size) = answers (p .n) (onFirst (λ s. take s size) (p .n) (p .buffer))
 serve p (GiveBack offset) = answers (p .n) (onFirst (λ s. giveBack s offset) (p .n) (p .buffer))
 serve p Figures = record { after = p; numbers = tallied (figuresFirst (p .n) (p .buffer)) }

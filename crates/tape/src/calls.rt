@@ -6,14 +6,14 @@ ghost use Rattle.tape.specs.Serve.{onFirst, figuresFirst};
 use paper::Answer;
 use paper::Tally;
 
-pub fn lay_out(buffer: &mut [u8], n: u32) -> Answer
-    ensures { λ r. ⌜ onFirst call.layOut n (now (buffer .entry)) ≡ out r (now (buffer .exit)) ⌝ }
+pub fn lay_out(buffer: &mut [u8], n: u32, layout: u32) -> Answer
+    ensures { λ r. ⌜ onFirst (λ s. call.layOut s layout) n (now (buffer .entry)) ≡ out r (now (buffer .exit)) ⌝ }
 {
     let end = n as usize;
     if buffer.len() < end {
         return Answer::Refused(paper::NOT_ALLOWED);
     }
-    pool::lay_out(&mut buffer[..end])
+    pool::lay_out(&mut buffer[..end], layout)
 }
 
 pub fn take(buffer: &mut [u8], n: u32, size: u32) -> Answer

@@ -35,8 +35,16 @@ pub fn serve(
 {
     match request {
         Request::LayOut(new) => {
-            let a = calls::lay_out(buffer, new);
+            let a = calls::lay_out(buffer, new, 1);
             let place = lines::answer(out, at, nth, b'L', a);
+            Served {
+                n: accepted(a, new, n),
+                place,
+            }
+        }
+        Request::LayOutIndexed(new) => {
+            let a = calls::lay_out(buffer, new, 2);
+            let place = lines::answer(out, at, nth, b'M', a);
             Served {
                 n: accepted(a, new, n),
                 place,

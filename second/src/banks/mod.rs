@@ -12,11 +12,12 @@ pub use branches::Counts;
 
 use crate::bank::{self, body_bytes, Bank, PISTONS};
 use crate::calls;
+use crate::images::EXTREMES;
 use crate::probe::{Bench, Command};
 use crate::random::Random;
 use crate::rules::Refusal;
 use crate::script::Script;
-use crate::state::State;
+use crate::state::{Layout, State};
 use laws::Log;
 
 #[derive(Clone, Debug)]
@@ -63,7 +64,7 @@ pub const GROUPS: [Group; 7] = [
     ("banks with records that do not read", 200, wrong::records),
     ("banks on damaged images", 500, wrong::pools),
     ("banks in the order of refusals", 16, wrong::order),
-    ("banks on extreme images", 7, wrong::extreme),
+    ("banks on extreme images", EXTREMES as u64, wrong::extreme),
 ];
 
 struct Maker<'a> {
@@ -101,9 +102,11 @@ impl<'a> Maker<'a> {
         self.bench.pool = bytes.to_vec();
     }
 
+    /// In either layout.
     fn lay_out(&mut self) {
-        self.script.plain(b'L').plain(b'D');
-        self.bench.serve(Command::LayOut);
+        let number = self.random.pick(&Layout::BOTH).number();
+        self.script.number(b'M', number).plain(b'D');
+        self.bench.serve(Command::LayOutAs(number));
     }
 
     fn put_bank(&mut self, bank: Bank) {

@@ -6,7 +6,7 @@ use super::{named, some_record, Call, Case, Counts, Habits, Maker};
 use crate::bank::{Bank, PISTONS};
 use crate::calls;
 use crate::damage;
-use crate::images::{extreme_states, random_image, random_state};
+use crate::images::{extreme_states, of_either_layout, random_image};
 use crate::layout;
 use crate::random::Random;
 use crate::rules;
@@ -122,7 +122,7 @@ pub fn banks(seed: u64, number: u64, counts: &mut Counts) -> Case {
 pub fn records(seed: u64, number: u64, counts: &mut Counts) -> Case {
     let mut random = Random::of_case(seed, 14, number);
     let n = random.between(40, 200) * 8;
-    let mut state = random_state(&mut random, n);
+    let mut state = of_either_layout(&mut random, n);
     for s in [28, 12, 4, 20, 36] {
         state = rules::take(&state, s).map_or(state, |(after, _)| after);
     }

@@ -106,7 +106,7 @@ pub fn random_bytes(p: &mut Patient, random: &mut Random) -> Option<()> {
             p.bytes[168..].copy_from_slice(&noise);
         }
         _ => {
-            let other = State::fresh(random.between(22, 400) * 8);
+            let other = State::fresh(random.between(22, 400) * 8, p.state.layout);
             let bytes = vec![0; other.n];
             p.bytes = layout::write(&other, &bytes);
             p.bytes.resize(n, 0);

@@ -4,13 +4,14 @@
 mod blocks;
 mod chain;
 mod ends;
+mod index;
 mod lists;
 mod words;
 
 use crate::images::{bins_in_any_order, random_image};
-use crate::layout::{self, distance, get8, put4, put8, CHAIN, FREE_WORD, LEVEL, NEXT, PREVIOUS};
+use crate::layout::{self, distance, get8, put4, put8, FREE_WORD, NEXT, PREVIOUS};
 use crate::random::Random;
-use crate::state::{Block, State, FALSE_BLOCK, LOW_RUN};
+use crate::state::{Block, State, LOW_RUN};
 
 /// A sound image on its way to being damaged.
 pub struct Patient {
@@ -21,7 +22,7 @@ pub struct Patient {
 /// Nothing where the image lacks what the damage needs.
 type Sort = fn(&mut Patient, &mut Random) -> Option<()>;
 
-pub const SORTS: [(&str, Sort); 50] = [
+pub const SORTS: [(&str, Sort); 64] = [
     ("bit flipped in a governed word", words::bit_flipped),
     ("governed word changed", words::word_changed),
     ("governed words swapped", words::words_swapped),
@@ -53,7 +54,7 @@ pub const SORTS: [(&str, Sort); 50] = [
     ("E moved with the words for it", ends::end_moved_well),
     ("high half of an opening word", words::high_half),
     ("second opening word not 96", words::second_word),
-    ("level word not 1", words::level_changed),
+    ("level word wrong", words::level_changed),
     ("false block's reserved word", words::false_reserved),
     ("two free large blocks touch", blocks::two_free_touch),
     ("block below R free", blocks::free_below_remainder),
@@ -72,6 +73,20 @@ pub const SORTS: [(&str, Sort); 50] = [
     ("remainder gone", ends::remainder_gone),
     ("n not allowed or not this pool's", ends::other_length),
     ("bytes at random", ends::random_bytes),
+    ("the other layout's level word", index::other_layout),
+    ("converted by half", index::half_converted),
+    ("height one off", index::height_off),
+    ("a level more than the height, with all words", index::too_tall),
+    ("a level less than the height, with all words", index::too_low),
+    ("reserved word above the height", index::above_the_height),
+    ("a level skips a bin", index::level_skips),
+    ("a level's order wrong", index::level_order),
+    ("a level closes on itself", index::level_ring),
+    ("a level through a lower bin", index::level_to_lower),
+    ("a level through a second block", index::level_to_second),
+    ("one index word off", index::word_off),
+    ("index words of one block swapped", index::words_of_a_tower_swapped),
+    ("a level above all bins used", index::empty_level_used),
 ];
 
 pub struct Damaged {
@@ -160,15 +175,14 @@ impl Patient {
         self.state.large_bins.values().map(|starts| starts[0]).collect()
     }
 
-    /// Writes the chain through these first blocks, whatever their sizes are.
+    /// Writes the chain, and with it every level of the index, through these first blocks in their
+    /// order, whatever their sizes are.
     fn chain_through(&mut self, heads: &[usize]) {
-        let mut from = FALSE_BLOCK;
-        for start in heads {
-            self.link(CHAIN, from, *start);
-            self.set(start + LEVEL, 1);
-            from = *start;
+        let size = |start: usize| self.state.low.iter().find(|block| block.start == start);
+        let firsts = heads.iter().map(|start| (*start, size(*start).map_or(72, |b| b.size)));
+        for (at, value) in layout::index_words(self.state.layout, &firsts.collect::<Vec<_>>()) {
+            self.set(at, value);
         }
-        self.set(from + CHAIN, 0);
     }
 
     /// Writes these blocks as one list with its links both ways.

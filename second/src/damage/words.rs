@@ -1,9 +1,7 @@
 //! Single words changed: bits, flags, footers, sums and words that have one right value.
 
 use super::{any, Patient};
-use crate::layout::{
-    self, get4, get8, put8, CHAIN, FALSE_CHAIN, LEVEL, NEXT, PREVIOUS, SMALL_NEXT,
-};
+use crate::layout::{self, get4, get8, put8, LEVEL, NEXT, PREVIOUS, SMALL_NEXT};
 use crate::random::Random;
 use crate::state::{Block, FALSE_BLOCK};
 
@@ -54,11 +52,12 @@ fn swap(p: &mut Patient, first: usize, second: usize) -> Option<()> {
 }
 
 pub fn links_swapped(p: &mut Patient, random: &mut Random) -> Option<()> {
-    let mut links = vec![FALSE_CHAIN];
+    let mut links = Vec::new();
     for block in p.free_large() {
         links.extend([block.start + PREVIOUS, block.start + NEXT]);
     }
-    links.extend(p.bin_heads().iter().map(|start| start + CHAIN));
+    let index = layout::index_words(p.state.layout, &p.state.firsts());
+    links.extend(index.iter().map(|(at, _)| *at));
     links.extend(p.free_small().iter().map(|block| block.start + SMALL_NEXT));
     links.extend((32..96).step_by(8));
     let (first, second) = (*random.pick(&links), *random.pick(&links));
@@ -116,14 +115,21 @@ pub fn level_changed(p: &mut Patient, random: &mut Random) -> Option<()> {
     let mut firsts = p.bin_heads();
     firsts.push(FALSE_BLOCK);
     let start = *random.pick(&firsts);
-    p.set(start + LEVEL, *random.pick(&[0, 2, 3, 257, u32::MAX, 1 << 24]));
-    Some(())
+    let old = get4(&p.bytes, start + LEVEL);
+    let value = *random.pick(&[0, 1, 2, 3, 12, 13, 14, 257, 269, u32::MAX, 1 << 24, old + 256]);
+    p.set(start + LEVEL, value);
+    if value == old {
+        None
+    } else {
+        Some(())
+    }
 }
 
 pub fn false_reserved(p: &mut Patient, random: &mut Random) -> Option<()> {
     let at = FALSE_BLOCK + random.below(72);
     let value = 1 << random.below(8);
-    if at / 4 * 4 == FALSE_CHAIN || p.bytes[at] == value {
+    let index = layout::index_words(p.state.layout, &[]);
+    if index.iter().any(|(there, _)| *there == at / 4 * 4) || p.bytes[at] == value {
         return None;
     }
     p.bytes[at] = value;

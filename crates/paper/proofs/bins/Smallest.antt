@@ -5,11 +5,11 @@ use Prim.Native.Nat.{_<_, _≤_, ℕ}
 use native.Mathlib.Omega.{arith}
 use Rattle.paper.proofs.bins.Bins.{first-count}
 use Rattle.paper.proofs.bins.Listed.{Loose, start}
-use Rattle.paper.proofs.bins.Seek.{seek-gap, seek-none, seek-spec, seek-zero}
+use Rattle.paper.proofs.bins.Seek.{seek-gap, seek-spec, seek-zero}
 use Rattle.paper.specs.Bins.{first}
 use Rattle.paper.specs.Blocks.{State, end}
 use Rattle.paper.specs.Granting.{smallestBin}
-use Rattle.words.specs.Choice.{by<, by=, if=, if=-no, if=-yes}
+use Rattle.words.specs.Choice.{by=, if=, if=-no, if=-yes}
 
 -- no bin is larger than the pool
 pub no-bin-past : (s : State) → Loose s → (z : ℕ) → end s < z → first (s .bins z) ≡ 0
@@ -43,23 +43,3 @@ module _ (s : State) (y : ℕ) where
         (omega (arith, start s W z (first (s .bins z)) (first-count (s .bins z) (first (s .bins z)) refl n)))
         (λ u a b. if=-yes (first (s .bins u)) 0 _ _ (gap u a b))
         ∙ here
-
-    pub smallest-exact : first (s .bins y) ≢ 0 → smallestBin s y ≡ y
-    smallest-exact n = smallest-is y (omega arith) n (λ u a b. absurd (omega arith))
-
-    -- every smaller one of at least that size is empty
-    pub smallest-gap : (u : ℕ) → y ≤ u → u < smallestBin s y → first (s .bins u) ≡ 0
-    unfolding smallestBin
-    smallest-gap u l m =
-        let r = seek-spec sizeWhere (end s) y (omega arith) in
-        by= (first (s .bins u)) 0 (λ e. e)
-        (λ o. by= (first (s .bins (r .0))) 0
-        (λ e. absurd (omega (arith, sym (if=-yes (first (s .bins (r .0))) 0 0 (r .0) e) ∙ r .2)))
-        (λ n. absurd (omega (arith, sym (if=-no (first (s .bins u)) 0 0 u o) ∙ r .3 u l (omega (arith, sym (if=-no (first (s .bins (r .0))) 0 0 (r .0) n) ∙ r .2))))))
-
-    pub none-smallest : smallestBin s y ≡ 0 → (u : ℕ) → y ≤ u → first (s .bins u) ≡ 0
-    unfolding smallestBin
-    none-smallest e u l =
-        by< (end s) u (λ m. no-bin-past s W u m)
-        (λ m. by= (first (s .bins u)) 0 (λ o. o)
-        (λ o. absurd (omega (arith, sym (if=-no (first (s .bins u)) 0 0 u o) ∙ seek-none sizeWhere (end s) y e u l (omega arith)))))

@@ -7,7 +7,8 @@ use Rattle.heads.specs.Links.{linkWord}
 use Rattle.paper.specs.Blocks.{State, end}
 use Rattle.paper.specs.Bins.{first, prevIn, nextIn, seek}
 use Rattle.paper.specs.Sheet.{byte, mapAt, write}
-use Rattle.paper.specs.Governed.{zeros, height, reach, above, index, largeWord, smallWord, walk, headerWord, sheet}
+use lib.Count.{trailingZeros}
+use Rattle.paper.specs.Governed.{height, reach, above, index, largeWord, smallWord, walk, headerWord, sheet}
 use Rattle.paper.proofs.cases.Pools.{states, pools}
 
 -- the buffer before: byte i is 7 i + 3
@@ -19,5 +20,5 @@ abbrev pub written : State → List ℕ
 written s = write (sheet s) (patterned (end s) 0)
 
 pub pools-written : map written states ≡ pools
-unfolding patterned if< if= linkWord first prevIn nextIn seek byte mapAt write zeros height reach above index largeWord smallWord walk headerWord sheet
+unfolding patterned if< if= linkWord first prevIn nextIn seek byte mapAt write trailingZeros height reach above index largeWord smallWord walk headerWord sheet
 pools-written = refl

@@ -9,7 +9,8 @@ use Rattle.heads.specs.Links.{linkWord}
 use Rattle.classes.specs.Class.{classOf, leastFrom, size}
 use Rattle.paper.specs.Blocks.{held, free, block, State}
 use Rattle.paper.specs.Bins.{first, prevIn, nextIn, seek}
-use Rattle.paper.specs.Governed.{zeros, height, reach, above, index, largeWord, smallWord, walk, headerWord, sheet}
+use lib.Count.{trailingZeros}
+use Rattle.paper.specs.Governed.{height, reach, above, index, largeWord, smallWord, walk, headerWord, sheet}
 use Rattle.paper.specs.Fresh.{fresh}
 
 -- one block of 104 bytes at 168, held or free, and a held one of 72 above it
@@ -56,5 +57,5 @@ stated =
     ∷ []
 
 pub starred-cases : computed ≡ stated
-unfolding computed stated blockSize if< if= linkWord classOf leastFrom size first prevIn nextIn seek zeros height reach above index largeWord smallWord walk headerWord sheet fresh
+unfolding computed stated blockSize if< if= linkWord classOf leastFrom size first prevIn nextIn seek trailingZeros height reach above index largeWord smallWord walk headerWord sheet fresh
 starred-cases = refl

@@ -16,28 +16,30 @@ use Rattle.paper.proofs.sheet.Written.{length-write, write-keeps, write
 use Rattle.paper.proofs.sheet.WrittenBytes.{write-bytes}
 use Rattle.paper.specs.Blocks.{State, end, total}
 use Rattle.paper.specs.Calls.{Reading, Reads, layOutCall, sound}
-use Rattle.paper.specs.Fresh.{fresh}
+use Rattle.paper.specs.Fresh.{fresh, layoutTop}
 use Rattle.paper.specs.Governed.{sheet}
 use Rattle.paper.specs.Honest.{Call, Ends, Honest, gives, number-of, outcome, takes}
 use Rattle.paper.specs.Sheet.{Holds, write}
-use Rattle.paper.specs.Sound.{Sound}
+use Rattle.paper.specs.Sound.{SoundTo}
 use Rattle.words.specs.Words.{Bytes}
 
 -- ---- the end: laid out
 
-pub bare-fresh : (s : State) → Bare s → s .top ≡ 1 → s ≡ fresh 1 (end s)
+pub bare-fresh : (s : State) → Bare s → (t : ℕ) → s .top ≡ t → s ≡ fresh t (end s)
 unfolding fresh
-bare-fresh s b t =
+bare-fresh s b t e =
     let r : s .rest ≡ end s - 168 = omega (arith, end-runs s, ap total (b .no-low), ap total (b .no-high)) in
-    λ i. record { top = t i; low = b .no-low i; rest = r i; high = b .no-high i; bins = λ y. b .no-bins y i }
+    λ i. record { top = e i; low = b .no-low i; rest = r i; high = b .no-high i; bins = λ y. b .no-bins y i }
 
-bare-laid-out : (s : State) (p : List ℕ) → Stands s p → Bare s → layOutCall p .after ≡ p
-unfolding Holds
-bare-laid-out s p S b =
-    laid-out-writes p (stands-allowed s p S)
-    ∙ ap (λ (n : ℕ). write (sheet (fresh 1 n)) p) (sym (S .ends))
-    ∙ ap (λ (t : State). write (sheet t) p) (sym (bare-fresh s b (S .layout-1)))
-    ∙ S .holds
+-- from here on in one layout
+module _ (layout : ℕ) (named : (layout ≡ 1) ⊎ (layout ≡ 2)) where
+  bare-laid-out : (s : State) (p : List ℕ) → Stands s p → s .top ≡ layoutTop layout → Bare s → layOutCall p layout .after ≡ p
+  unfolding Holds
+  bare-laid-out s p S t b =
+      laid-out-writes p (stands-allowed s p S) layout named
+      ∙ ap (λ (n : ℕ). write (sheet (fresh (layoutTop layout) n)) p) (sym (S .ends))
+      ∙ ap (λ (u : State). write (sheet u) p) (sym (bare-fresh s b (layoutTop layout) t))
+      ∙ S .holds
 
 -- ---- one more call
 
@@ -55,7 +57,7 @@ module _ (s : State) (p : List ℕ) (S : Stands s p) (u : Undone s) where
   earlier = write (sheet (u .before)) p
 
   earlier-stands : Stands (u .before) earlier
-  earlier-stands = write-stands (u .before) (u .kept .well-formed) (u .kept .same-top ∙ S .layout-1) p (u .kept .ends ∙ S .ends)
+  earlier-stands = write-stands (u .before) (u .kept .well-formed) p (u .kept .ends ∙ S .ends)
 
   -- the words of s over it are these very bytes
   written-again : write (sheet s) earlier ≡ p
@@ -67,41 +69,52 @@ module _ (s : State) (p : List ℕ) (S : Stands s p) (u : Undone s) where
   call-ends =
       outcome-writes (u .before) earlier (u .call) ∙ ap (λ (t : State). write (sheet t) earlier) (u .leads-back) ∙ written-again
 
-  one-more : Honest earlier → Honest p
-  one-more h =
+  one-more : (layout : ℕ) → Honest layout earlier → Honest layout p
+  one-more layout h =
       record {
         buffer = h .buffer;
         bytes = h .bytes;
         as-long = h .as-long ∙ length-write (sheet (u .before)) p;
         length-allowed = h .length-allowed;
+        layout-named = h .layout-named;
         calls = h .calls ++ u .call ∷ [];
         ends =
-            ends-with (layOutCall (h .buffer) .after) (h .calls) earlier (u .call) (sound (u .before)) p (h .ends) (u .number-fits)
+            ends-with (layOutCall (h .buffer) layout .after) (h .calls) earlier (u .call) (sound (u .before)) p (h .ends) (u .number-fits)
             (stands-sound (u .before) earlier earlier-stands) call-ends;
       }
 
--- ---- by the weight
+-- ---- by the weight, in one layout
 
-bare-honest : (s : State) (p : List ℕ) → Stands s p → Bytes p → Bare s → Honest p
-bare-honest s p S h b =
-    record { buffer = p; bytes = h; as-long = refl; length-allowed = stands-allowed s p S; calls = []; ends = bare-laid-out s p S b }
+module _ (layout : ℕ) (named : (layout ≡ 1) ⊎ (layout ≡ 2)) where
+  bare-honest : (s : State) (p : List ℕ) → Stands s p → s .top ≡ layoutTop layout → Bytes p → Bare s → Honest layout p
+  bare-honest s p S t h b =
+      record {
+        buffer = p;
+        bytes = h;
+        as-long = refl;
+        length-allowed = stands-allowed s p S;
+        layout-named = named;
+        calls = [];
+        ends = bare-laid-out layout named s p S t b;
+      }
 
--- every lighter pool is honest
-abbrev HonestUnder : ℕ → Type 0
-HonestUnder m = (s : State) (p : List ℕ) → suc (weight s) ≡ m → Stands s p → Bytes p → Honest p
+  -- every lighter pool is honest
+  abbrev HonestUnder : ℕ → Type 0
+  HonestUnder m = (s : State) (p : List ℕ) → suc (weight s) ≡ m → Stands s p → s .top ≡ layoutTop layout → Bytes p → Honest layout p
 
-by-weight : (m : ℕ) → HonestUnder m → (s : State) (p : List ℕ) → weight s ≡ m → Stands s p → Bytes p → Honest p
-by-weight m below s p w S h = go (undo s (S .well-formed))
-  where
-    go : Undone s ⊎ Bare s → Honest p
-    go (inl u) =
-        one-more s p S u
-        (below (u .before) (write (sheet (u .before)) p) (u .lighter ∙ w) (earlier-stands s p S u) (write-bytes (sheet (u .before)) p h))
-    go (inr b) = bare-honest s p S h b
+  by-weight : (m : ℕ) → HonestUnder m → (s : State) (p : List ℕ) → weight s ≡ m → Stands s p → s .top ≡ layoutTop layout → Bytes p → Honest layout p
+  by-weight m below s p w S t h = go (undo s (S .well-formed))
+    where
+      go : Undone s ⊎ Bare s → Honest layout p
+      go (inl u) =
+          one-more s p S u layout
+          (below (u .before) (write (sheet (u .before)) p) (u .lighter ∙ w) (earlier-stands s p S u) (u .kept .same-top ∙ t)
+          (write-bytes (sheet (u .before)) p h))
+      go (inr b) = bare-honest s p S t h b
 
-stands-honest : (m : ℕ) (s : State) (p : List ℕ) → weight s ≡ m → Stands s p → Bytes p → Honest p
-stands-honest zero = by-weight zero (λ s p w S h. absurd (omega arith))
-stands-honest (suc m) = by-weight (suc m) (λ s p w S h. stands-honest m s p (omega arith) S h)
+  stands-honest : (m : ℕ) (s : State) (p : List ℕ) → weight s ≡ m → Stands s p → s .top ≡ layoutTop layout → Bytes p → Honest layout p
+  stands-honest zero = by-weight zero (λ s p w S t h. absurd (omega arith))
+  stands-honest (suc m) = by-weight (suc m) (λ s p w S t h. stands-honest m s p (omega arith) S t h)
 
-pub sound-honest : (p : List ℕ) → Bytes p → Sound p → Honest p
-sound-honest p h S = stands-honest (weight (S .state)) (S .state) p refl (sound-stands p S) h
+  pub sound-honest : (p : List ℕ) → Bytes p → SoundTo (layoutTop layout) p → Honest layout p
+  sound-honest p h S = stands-honest (weight (S .is-sound .state)) (S .is-sound .state) p refl (sound-stands p (S .is-sound)) (S .is-top) h

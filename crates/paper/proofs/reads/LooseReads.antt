@@ -18,10 +18,10 @@ use Rattle.paper.proofs.runs.Walk.{In, in-aligned, in-flag, in-high, in
 use Rattle.paper.proofs.sheet.Written.{holds-word}
 use Rattle.paper.specs.Bins.{count, first, nextIn, prevIn}
 use Rattle.paper.specs.Blocks.{Kind, State, block, blocks, end, free, remainder, size}
-use Rattle.paper.specs.Governed.{above, headWord, height, link, reach, sheet}
-use Rattle.paper.specs.Layout.{blocks-at, false-block, large, next-at, previous-at}
+use Rattle.paper.specs.Governed.{above, headWord, height, index, link, reach, sheet}
+use Rattle.paper.specs.Layout.{blocks-at, false-block, large, level-at, next-at, previous-at}
 use Rattle.paper.specs.Sheet.{Holds}
-use Rattle.words.specs.Choice.{by<, by=}
+use Rattle.words.specs.Choice.{by<, by=, if<, if=}
 use Rattle.words.specs.Words.{wordAt}
 
 -- the bins of the index: what `above` finds is the first block of a larger bin, with none between
@@ -101,14 +101,19 @@ module _ (bs : List ℕ) (s : State) (W : Loose s) (fits : end s ≤ 65536) (l :
         let j13 : j ≤ 13 = omega (arith, height-le (s .top) z, W .top13) in
         word-reads (q + (68 - 4 * j)) _ (omega arith) (omega arith) (linkWord-small q _) (at-word s q z (f .0) (f .1) is-large e j j1 jh (W .top13))
 
+  long : 176 ≤ end s
+  long = omega (
+    arith,
+    sized-parts (s .low) (block (s .rest) remainder ∷ s .high) (W .sized) .1 .0 .0,
+    total-append (s .low)
+        (block (s .rest) remainder ∷ s .high),
+  )
+
+  -- the false block
   pub false-reads : (j : ℕ) → 1 ≤ j → j ≤ s .top → wordAt 4 bs (false-block + (68 - 4 * j)) ≡ linkWord false-block (above (s .top) (end s) (s .bins) j 64)
   false-reads j j1 jt =
       word-reads (false-block + (68 - 4 * j)) _ (omega (arith, W .top13)) (omega (arith, long)) (linkWord-small false-block _) (false-word s j j1 jt (W .top13))
-    where
-      long : 176 ≤ end s
-      long = omega (
-        arith,
-        sized-parts (s .low) (block (s .rest) remainder ∷ s .high) (W .sized) .1 .0 .0,
-        total-append (s .low)
-            (block (s .rest) remainder ∷ s .high),
-      )
+
+  pub top-reads : wordAt 4 bs (false-block + level-at) ≡ s .top
+  unfolding sheet index if= if<
+  top-reads = word-reads 108 (s .top) refl (omega (arith, long)) (omega (arith, W .top13)) refl

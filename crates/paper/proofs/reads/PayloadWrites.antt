@@ -51,7 +51,6 @@ pub stands-same-outside : (s : State) (bs bs' : List ℕ) → Stands s bs → le
 stands-same-outside s bs bs' S l k =
     record {
       well-formed = S .well-formed;
-      layout-1 = S .layout-1;
       ends = S .ends ∙ sym l;
       holds = holds-through (sheet s) bs bs' l (S .holds) (λ i b. at i b (sheet s (i / 4 * 4)) refl);
     }

@@ -12,15 +12,15 @@ use Rattle.paper.proofs.bins.Bins.{first-count, next-mem, prev-first, p
 use Rattle.paper.proofs.bins.Distances.{linkWord-inj, linkWord-small}
 use Rattle.paper.proofs.sheet.Fields.{at-block, at-on}
 use Rattle.paper.proofs.bins.Listed.{loose, start}
-use Rattle.paper.proofs.reads.LooseReads.{head-word-reads, no-zero-listed, previous-reads, word-reads}
+use Rattle.paper.proofs.reads.LooseReads.{head-word-reads, no-zero-listed, previous-reads, word-reads, top-reads as loose-top-reads}
 use Rattle.paper.proofs.runs.Walk.{In, in-sized, sized-parts, total-append}
 use Rattle.paper.specs.Bins.{count, first, nextIn, prevIn}
 use Rattle.paper.specs.Blocks.{Kind, State, block, blocks, end, free, remainder, total}
-use Rattle.paper.specs.Governed.{headWord, headerWord, index, link, sheet, smallWord}
+use Rattle.paper.specs.Governed.{headWord, headerWord, link, sheet, smallWord}
 use Rattle.paper.specs.Layout.{blocks-at, end-at, false-block, large, level-at, next-at, previous-at, small-bins, small-next-at, start-at}
 use Rattle.paper.specs.Sheet.{Holds}
 use Rattle.paper.specs.Sound.{WellFormed}
-use Rattle.words.specs.Choice.{by=, if<, if<-yes, if=, if=-no, if=-yes, ifs}
+use Rattle.words.specs.Choice.{by=, if<-yes, if=, if=-no, if=-yes, ifs}
 use Rattle.words.specs.Words.{wordAt}
 
 -- ---- what one state says of the bytes
@@ -127,5 +127,4 @@ module _ (bs : List ℕ) (s : State) (W : WellFormed s) (l : length bs ≡ end s
   rest-reads = header-reads 3 (omega arith) (omega (arith, W .fits, total-append (s .low) (block (s .rest) remainder ∷ s .high)))
 
   pub top-reads : wordAt 4 bs (false-block + level-at) ≡ s .top
-  unfolding sheet index if= if<
-  top-reads = reads 108 (s .top) refl (omega (arith, end-big)) (omega (arith, loose s W .top13)) refl
+  top-reads = loose-top-reads bs s (loose s W) (W .fits) l h

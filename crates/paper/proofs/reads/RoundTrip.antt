@@ -14,9 +14,9 @@ use Rattle.paper.specs.Governed.{sheet}
 use Rattle.paper.specs.Sheet.{Holds, Sheet, byte, octet, pick, write}
 use Rattle.paper.specs.Sound.{Sound, WellFormed}
 
-pub write-stands : (s : State) → WellFormed s → s .top ≡ 1 → (bs : List ℕ) → end s ≡ length bs → Stands s (write (sheet s) bs)
-write-stands s W t bs e =
-    record { well-formed = W; layout-1 = t; ends = e ∙ sym (length-write (sheet s) bs); holds = holds-write (sheet s) bs }
+pub write-stands : (s : State) → WellFormed s → (bs : List ℕ) → end s ≡ length bs → Stands s (write (sheet s) bs)
+write-stands s W bs e =
+    record { well-formed = W; ends = e ∙ sym (length-write (sheet s) bs); holds = holds-write (sheet s) bs }
 
 -- a governed byte is the sheet's
 pub write-governed : (g : Sheet) (bs : List ℕ) (i v : ℕ) → i < length bs → g (i / 4 * 4) ≡ some v → getD (write g bs) i 0 ≡ octet v (i % 4)
@@ -29,7 +29,7 @@ holds-governed g bs i v h b e = ap (λ (t : List ℕ). getD t i 0) (sym h) ∙ w
 
 module _ (p : List ℕ) (S : Sound p) (b : List ℕ) (l : length b ≡ length p) where
   pub written-stands : Stands (S .state) (write (sheet (S .state)) b)
-  written-stands = write-stands (S .state) (S .well-formed) (S .is-top) b (S .ends ∙ sym l)
+  written-stands = write-stands (S .state) (S .well-formed) b (S .ends ∙ sym l)
 
   pub written-sound : (T : Sound (write (sheet (S .state)) b)) × (T .state ≡ S .state)
   written-sound = stands-sound (S .state) (write (sheet (S .state)) b) written-stands

@@ -29,14 +29,13 @@ stands-sound s bs S = (
     well-formed = S .well-formed;
     ends = S .ends;
     holds = S .holds;
-    is-top = S .layout-1;
   },
   refl,
 )
 
 pub sound-stands : (bs : List ℕ) (S : Sound bs) → Stands (S .state) bs
 sound-stands bs S =
-    record { well-formed = S .well-formed; layout-1 = S .is-top; ends = S .ends; holds = S .holds }
+    record { well-formed = S .well-formed; ends = S .ends; holds = S .holds }
 
 -- however the pool was found sound
 pub stands-same : (s s' : State) (bs : List ℕ) → Stands s bs → Stands s' bs → s ≡ s'

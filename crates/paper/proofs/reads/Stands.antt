@@ -1,4 +1,4 @@
--- A pool of bytes that stands for a state: well formed, of layout 1, as long as the state ends, and each governed byte has its value.
+-- A pool of bytes that stands for a state: well formed, as long as the state ends, and each governed byte has its value.
 use mathlib.Core.Path.{_≡_}
 use mathlib.Core.List.{List}
 use Prim.Native.Nat.{ℕ}
@@ -10,6 +10,5 @@ use Rattle.paper.specs.Sound.{WellFormed}
 
 pub record Stands (s : State) (bs : List ℕ) : Type 0 where
   pub well-formed : WellFormed s
-  pub layout-1 : s .top ≡ 1
   pub ends : end s ≡ length bs
   pub holds : Holds (sheet s) bs

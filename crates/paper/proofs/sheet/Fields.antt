@@ -10,7 +10,7 @@ use Rattle.paper.specs.Bins.{first, nextIn, prevIn}
 use Rattle.paper.specs.Blocks.{Block, Kind, State, block, blocks, end, free, size}
 use Rattle.paper.specs.Governed.{above, blockWord, headWord, height, index, largeWord, link, sheet}
 use Rattle.paper.specs.Layout.{blocks-at, chain-at, false-block, large, level-at, next-at, previous-at}
-use Rattle.words.specs.Choice.{if=-no, if=-yes, ifs}
+use Rattle.words.specs.Choice.{if<, if=, if=-no, if=-yes, ifs}
 
 pub height-le : (t z : ℕ) → height t z ≤ t
 unfolding height
@@ -78,6 +78,10 @@ module _ (s : State) where
           at-index (68 - 4 * j) (omega arith) (omega arith) ∙ simp ifs (ap (λ (k : ℕ). some (linkWord q (S·above k z))) (omega arith))
 
   -- the false block
+  pub false-level : sheet s (false-block + level-at) ≡ some (s .top)
+  unfolding sheet index if= if<
+  false-level = refl
+
   pub false-word : (j : ℕ) → 1 ≤ j → j ≤ s .top → s .top ≤ 13 → sheet s (false-block + (68 - 4 * j)) ≡ some (linkWord false-block (S·above j 64))
   unfolding sheet index
   false-word j a b c =

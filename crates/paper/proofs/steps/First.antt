@@ -12,7 +12,7 @@ use Rattle.paper.proofs.steps.Leave.{NothingNew, above-same, frame, ind
 use Rattle.paper.proofs.steps.Leaving.{back-puts, height-top, leaves, leaving-loose, once-p, rebinned}
 use Rattle.paper.proofs.bins.Listed.{Loose, rebin-other, rebin-same, start}
 use Rattle.paper.proofs.bins.Seek.{seek-found, seek-gap, seek-keep, seek-other, seek-past}
-use Rattle.paper.proofs.sheet.StoreRuns.{each, elsewhere-append, elsewhere-each, good-append, good-each}
+use Rattle.paper.proofs.sheet.StoreRuns.{by-level, elsewhere-append, elsewhere-level, good-append, good-level}
 use Rattle.paper.proofs.sheet.Stores.{Elsewhere, Good}
 use Rattle.paper.proofs.runs.Walk.{In, in-aligned, in-low, in-unique}
 use Rattle.paper.specs.Bins.{count, first, prevIn, rebin}
@@ -31,11 +31,16 @@ pub record Pred (s : State) (z j y w : ℕ) : Type 0 where
   pub gap : (u : ℕ) → y < u → u < z → reach (s .top) (end s) (s .bins) j u ≡ 0
   pub who : OnLevel s j y w
 
--- the second takes over the level word and the index words
-unfoldable pub heir-puts : State → ℕ → List ℕ → List (ℕ × ℕ)
-heir-puts s z [] = []
-heir-puts s z (nx ∷ vs) =
-    (nx + level-at, height (s .top) z) ∷ each (height (s .top) z) (λ j. (nx + (68 - 4 * j), linkWord nx (above (s .top) (end s) (s .bins) j z)))
+-- the second gets a level word
+unfoldable pub level-puts : State → ℕ → List ℕ → List (ℕ × ℕ)
+level-puts s z [] = []
+level-puts s z (nx ∷ vs) = (nx + level-at, height (s .top) z) ∷ []
+
+-- on level j it takes over the index word, and the one before bin z leads to it; or the one before passes over
+unfoldable pub link-puts : State → ℕ → (ℕ → ℕ) → List ℕ → ℕ → List (ℕ × ℕ)
+link-puts s z w [] j = (w j + (68 - 4 * j), linkWord (w j) (above (s .top) (end s) (s .bins) j z)) ∷ []
+link-puts s z w (nx ∷ vs) j =
+    (nx + (68 - 4 * j), linkWord nx (above (s .top) (end s) (s .bins) j z)) ∷ (w j + (68 - 4 * j), linkWord (w j) nx) ∷ []
 
 -- what those before bin z at level j find from now on
 unfoldable pub heir : State → ℕ → ℕ → List ℕ → ℕ
@@ -43,7 +48,13 @@ heir s z j [] = above (s .top) (end s) (s .bins) j z
 heir s z j (nx ∷ vs) = nx
 
 unfoldable pub first-puts : State → ℕ → (ℕ → ℕ) → List ℕ → List (ℕ × ℕ)
-first-puts s z w vs = back-puts 0 vs ++ (heir-puts s z vs ++ each (height (s .top) z) (λ j. (w j + (68 - 4 * j), linkWord (w j) (heir s z j vs))))
+first-puts s z w vs = back-puts 0 vs ++ (level-puts s z vs ++ by-level (height (s .top) z) (link-puts s z w vs))
+
+-- a store is at the word of the one before
+pub link-apart : (s : State) (z : ℕ) (w : ℕ → ℕ) (vs : List ℕ) (j a : ℕ) → Elsewhere a (link-puts s z w vs j) → a ≢ w j + (68 - 4 * j)
+unfolding link-puts
+link-apart s z w [] j a o = o .0
+link-apart s z w (nx ∷ vs) j a o = o .1 .0
 
 -- reach, where it is not 0
 pub reach-is : (t n : ℕ) (b : ℕ → List ℕ) (j y w : ℕ) → reach t n b j y ≡ w → w ≢ 0 → (first (b y) ≡ w) × (j ≤ height t y)
@@ -129,7 +140,7 @@ module _ (s : State) (W : Loose s) (z p : ℕ) (vs : List ℕ) (is-in : s .bins 
 
   module _ (y₀ w : ℕ → ℕ) (preds : (j : ℕ) → 1 ≤ j → j ≤ height (s .top) z → Pred s z j (y₀ j) (w j)) where
     pub first-frame : (a : ℕ) → a % 4 ≡ 0 → Elsewhere a (first-puts s z w vs) → NothingNew (sheet (rebinned s z vs) a) (sheet s a)
-    unfolding first-puts lastOr first back-puts heir-puts
+    unfolding first-puts lastOr first back-puts level-puts link-puts
     first-frame a al out =
         frame s (rebin (s .bins) z vs) z p [] vs (leaves s W z p [] vs is-in is-large) NothingNew (λ x y e. inr e) a al
         (λ _. inl (ap (link p) (prev-absent 0 vs p absent))) (λ _. inl (ap (link p) (next-absent vs p absent)))
@@ -141,26 +152,30 @@ module _ (s : State) (W : Loose s) (z p : ℕ) (vs : List ℕ) (is-in : s .bins 
         absent : count p vs ≡ 0
         absent = omega (arith, once-p s W z p [] vs is-in is-large)
 
-        out-back : Elsewhere a (back-puts 0 vs) × Elsewhere a
-            (heir-puts s z vs ++ each (height (s .top) z) (λ j. (w j + (68 - 4 * j), linkWord (w j) (heir s z j vs))))
+        out-back : Elsewhere a (back-puts 0 vs) × Elsewhere a (level-puts s z vs ++ by-level (height (s .top) z) (link-puts s z w vs))
         out-back = elsewhere-append a (back-puts 0 vs) _ out
 
-        out-heir : Elsewhere a (heir-puts s z vs) × Elsewhere a (each (height (s .top) z) (λ j. (w j + (68 - 4 * j), linkWord (w j) (heir s z j vs))))
-        out-heir = elsewhere-append a (heir-puts s z vs) _ (out-back .1)
+        out-level : Elsewhere a (level-puts s z vs) × Elsewhere a (by-level (height (s .top) z) (link-puts s z w vs))
+        out-level = elsewhere-append a (level-puts s z vs) _ (out-back .1)
+
+        out-words : (j : ℕ) → 1 ≤ j → j ≤ height (s .top) z → Elsewhere a (link-puts s z w vs j)
+        out-words = elsewhere-level a (height (s .top) z) (link-puts s z w vs) (out-level .1)
 
         out-links : (j : ℕ) → 1 ≤ j → j ≤ height (s .top) z → a ≢ w j + (68 - 4 * j)
-        out-links = elsewhere-each a (height (s .top) z) (λ j. (w j + (68 - 4 * j), linkWord (w j) (heir s z j vs))) (out-heir .1)
+        out-links j j1 l = link-apart s z w vs j a (out-words j j1 l)
 
         back : (vs : List ℕ) → Elsewhere a (back-puts 0 vs) → blocks-at ≤ a → a ≢ first vs + previous-at
         back [] o l = omega arith
         back (nx ∷ ws) o l = o .0
 
-        mine : (ws : List ℕ) (q y : ℕ) → Elsewhere a (heir-puts s z ws) → y ≡ z → first ws ≡ q → blocks-at ≤ q → q ≤ a → (a - q) % 4 ≡ 0
+        mine : (ws : List ℕ) (q y : ℕ) → Elsewhere a (level-puts s z ws)
+            → ((j : ℕ) → 1 ≤ j → j ≤ height (s .top) z → Elsewhere a (link-puts s z w ws j))
+            → y ≡ z → first ws ≡ q → blocks-at ≤ q → q ≤ a → (a - q) % 4 ≡ 0
             → index (s .top) (end s) (rebin (s .bins) z vs) none (height (s .top) y) q y (a - q) ≡ none
-        mine [] q y o e f l qa o4 = absurd (omega arith)
-        mine (nx ∷ ws) q y o e f l qa o4 =
+        mine [] q y o os e f l qa o4 = absurd (omega arith)
+        mine (nx ∷ ws) q y o os e f l qa o4 =
             index-none (s .top) (end s) (rebin (s .bins) z vs) (height (s .top) y) q y (a - q) o4 (height-top s W y) (λ k. o .0 (omega arith))
-            (λ j j1 jh k. elsewhere-each a (height (s .top) z) _ (o .1) j j1 (rw e at jh) (omega (arith, height-top s W y)))
+            (λ j j1 jh k. os j j1 (rw e at jh) .0 (omega (arith, height-top s W y)))
 
         index-words : (q y P : ℕ) → In (blocks s) blocks-at 1 q (block y free) P → large ≤ y → q ≤ a → a < q + y
             → NothingNew (if= (first (rebin (s .bins) z vs y)) q (index (s .top) (end s) (rebin (s .bins) z vs) none (height (s .top) y) q y (a - q)) none)
@@ -170,7 +185,7 @@ module _ (s : State) (W : Loose s) (z p : ℕ) (vs : List ℕ) (is-in : s .bins 
             let o4 : (a - q) % 4 ≡ 0 = omega (arith, in-aligned (blocks s) blocks-at 1 q (block y free) P (W .sized) refl h) in
             by= y z
             (λ e. inl (by= (first (rebin (s .bins) z vs y)) q
-            (λ f. simp ifs (mine vs q y (out-heir .0) e (sym (ap first (ap (rebin (s .bins) z vs) e ∙ rebin-same (s .bins) z vs)) ∙ f) q168 qa o4))
+            (λ f. simp ifs (mine vs q y (out-level .0) out-words e (sym (ap first (ap (rebin (s .bins) z vs) e ∙ rebin-same (s .bins) z vs)) ∙ f) q168 qa o4))
             (λ f. simp ifs)))
             (λ n. inr (rw (rebin-other (s .bins) z vs y n)
             (by= (first (s .bins y)) q
@@ -223,11 +238,11 @@ module _ (s : State) (W : Loose s) (z p : ℕ) (vs : List ℕ) (is-in : s .bins 
     -- the stores fit every later state that has these bins
     module _ (s' : State) (W' : Loose s') (bs' : s' .bins ≡ rebin (s .bins) z vs) (te : s' .top ≡ s .top) (ee : end s' ≡ end s) where
       pub first-good : Good (sheet s') (end s') (first-puts s z w vs)
-      unfolding first-puts back-puts heir-puts lastOr first count
+      unfolding first-puts back-puts level-puts link-puts heir lastOr first count
       first-good =
           good-append (sheet s') (end s') (back-puts 0 vs) _ (back-good vs refl)
-          (good-append (sheet s') (end s') (heir-puts s z vs) _ (heir-good vs refl)
-          (good-each (sheet s') (end s') (height (s .top) z) _ (λ j j1 l. word-good j j1 l (preds j j1 l))))
+          (good-append (sheet s') (end s') (level-puts s z vs) _ (level-good vs refl)
+          (good-level (sheet s') (end s') (height (s .top) z) (link-puts s z w vs) (λ j j1 l. link-good vs refl j j1 l (word-good j j1 l (preds j j1 l)))))
         where
           bins-z : s' .bins z ≡ vs
           bins-z = ap (λ (f : ℕ → List ℕ). f z) bs' ∙ rebin-same (s .bins) z vs
@@ -256,18 +271,26 @@ module _ (s : State) (W : Loose s) (z p : ℕ) (vs : List ℕ) (is-in : s .bins 
                 tt,
               )
 
-          heir-good : (ws : List ℕ) → vs ≡ ws → Good (sheet s') (end s') (heir-puts s z ws)
-          heir-good [] e = tt
-          heir-good (nx ∷ ws) e =
+          level-good : (ws : List ℕ) → vs ≡ ws → Good (sheet s') (end s') (level-puts s z ws)
+          level-good [] e = tt
+          level-good (nx ∷ ws) e =
+              let b = nx-at nx ws e in
+              ((omega arith, omega arith, at-level s' nx z (b .1 .0) (b .1 .1) is-large (b .2) ∙ ap some (same-height z)), tt)
+
+          link-good : (ws : List ℕ) → vs ≡ ws → (j : ℕ) → 1 ≤ j → j ≤ height (s .top) z
+              → ((w j + (68 - 4 * j)) % 4 ≡ 0) × (w j + (68 - 4 * j) + 4 ≤ end s')
+              × (sheet s' (w j + (68 - 4 * j)) ≡ some (linkWord (w j) (heir s z j vs)))
+              → Good (sheet s') (end s') (link-puts s z w ws j)
+          link-good [] e j j1 l g = ((g .0, g .1, g .2 ∙ ap (λ (k : List ℕ). some (linkWord (w j) (heir s z j k))) e), tt)
+          link-good (nx ∷ ws) e j j1 l g =
               let b = nx-at nx ws e in (
-                (omega arith, omega arith, at-level s' nx z (b .1 .0) (b .1 .1) is-large (b .2) ∙ ap some (same-height z)),
-                good-each (sheet s') (end s') (height (s .top) z) _
-                    (λ j j1 l. (
-                      omega (arith, height-top s W z),
-                      omega arith,
-                      at-word s' nx z (b .1 .0) (b .1 .1) is-large (b .2) j j1 (omega (arith, same-height z)) (W' .top13)
-                          ∙ ap (λ (v : ℕ). some (linkWord nx v)) (same-above j z ∙ past-same j),
-                    )),
+                (
+                  omega (arith, height-top s W z),
+                  omega arith,
+                  at-word s' nx z (b .1 .0) (b .1 .1) is-large (b .2) j j1 (omega (arith, same-height z)) (W' .top13)
+                      ∙ ap (λ (v : ℕ). some (linkWord nx v)) (same-above j z ∙ past-same j),
+                ),
+                ((g .0, g .1, g .2 ∙ ap (λ (k : List ℕ). some (linkWord (w j) (heir s z j k))) e), tt),
               )
 
           word-good : (j : ℕ) → 1 ≤ j → j ≤ height (s .top) z → Pred s z j (y₀ j) (w j)

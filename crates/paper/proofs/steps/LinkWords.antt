@@ -9,11 +9,11 @@ use Rattle.heads.specs.Links.{linkWord}
 use Rattle.paper.proofs.bins.BinLaws.{count-rebin-enter}
 use Rattle.paper.proofs.bins.Bins.{count-append, count-here, count-there, first-count, last-count, lastOr, next-absent, next-mem, prev-absent, prev-some}
 use Rattle.paper.proofs.sheet.Fields.{at-back, at-block, at-level, at-on, at-word, false-word, height-le}
-use Rattle.paper.proofs.steps.First.{OnLevel, Pred, first-puts, heir-puts, reach-is}
+use Rattle.paper.proofs.steps.First.{OnLevel, Pred, first-puts, level-puts, link-puts, reach-is}
 use Rattle.paper.proofs.steps.LeaveStep.{leave-puts}
 use Rattle.paper.proofs.steps.Leaving.{back-puts, later-puts}
 use Rattle.paper.proofs.bins.Listed.{Loose, rebin-other, rebin-same, start}
-use Rattle.paper.proofs.sheet.StoreRuns.{each}
+use Rattle.paper.proofs.sheet.StoreRuns.{by-level}
 use Rattle.paper.proofs.sheet.Stores.{Elsewhere}
 use Rattle.paper.proofs.runs.Walk.{In}
 use Rattle.paper.specs.Bins.{count, enter, first, rebin}
@@ -57,15 +57,16 @@ words-append : (t : ℕ) (b : ℕ → List ℕ) (ps qs : List (ℕ × ℕ)) → 
 words-append t b [] qs x y = y
 words-append t b (p ∷ ps) qs x y = (x .0, words-append t b ps qs (x .1) y)
 
-words-each : (t : ℕ) (b : ℕ → List ℕ) (h : ℕ) (f : ℕ → ℕ × ℕ) → ((j : ℕ) → 1 ≤ j → j ≤ h → Word t b (f j .0)) → Words t b (each h f)
-words-each t b zero f k = tt
-words-each t b (suc h) f k = (k (suc h) (omega arith) (omega arith), words-each t b h f (λ j l m. k j l (omega arith)))
+words-level : (t : ℕ) (b : ℕ → List ℕ) (h : ℕ) (f : ℕ → List (ℕ × ℕ)) → ((j : ℕ) → 1 ≤ j → j ≤ h → Words t b (f j)) → Words t b (by-level h f)
+words-level t b zero f k = tt
+words-level t b (suc h) f k =
+    words-append t b (f (suc h)) (by-level h f) (k (suc h) (omega arith) (omega arith)) (words-level t b h f (λ j l m. k j l (omega arith)))
 
 -- leaving stores at such words only
 pub leave-words : (s : State) (W : Loose s) (z p : ℕ) (us vs : List ℕ) (is-in : s .bins z ≡ us ++ p ∷ vs) (is-large : large ≤ z) (y₀ w : ℕ → ℕ)
     → ((j : ℕ) → 1 ≤ j → j ≤ height (s .top) z → Pred s z j (y₀ j) (w j))
     → Words (s .top) (rebin (s .bins) z (us ++ vs)) (leave-puts s z w us vs)
-unfolding leave-puts later-puts first-puts back-puts heir-puts first
+unfolding leave-puts later-puts first-puts back-puts level-puts link-puts first
 leave-words s W z p (u ∷ us) vs is-in is-large y₀ w preds = (
   on-list (lastOr u us) z next-at is-large (rw rebin-same (omega (arith, last-count u us, count-append (lastOr u us) (u ∷ us) vs)))
       (inr refl),
@@ -81,8 +82,8 @@ leave-words s W z p (u ∷ us) vs is-in is-large y₀ w preds = (
     )
 leave-words s W z p [] vs is-in is-large y₀ w preds =
     words-append (s .top) (rebin (s .bins) z vs) (back-puts 0 vs) _ (back vs refl)
-    (words-append (s .top) (rebin (s .bins) z vs) (heir-puts s z vs) _ (mine vs refl)
-    (words-each (s .top) (rebin (s .bins) z vs) (height (s .top) z) _ (λ j j1 l. pred j j1 l (preds j j1 l))))
+    (words-append (s .top) (rebin (s .bins) z vs) (level-puts s z vs) _ (mine vs refl)
+    (words-level (s .top) (rebin (s .bins) z vs) (height (s .top) z) (link-puts s z w vs) (λ j j1 l. links vs refl j j1 l (pred j j1 l (preds j j1 l)))))
   where
     nonzero : (nx : ℕ) (ws : List ℕ) → vs ≡ nx ∷ ws → nx ≢ 0
     nonzero nx ws e =
@@ -93,13 +94,14 @@ leave-words s W z p [] vs is-in is-large y₀ w preds =
     back [] e = tt
     back (nx ∷ ws) e = (on-list nx z previous-at is-large (rw (rebin-same, e) (omega (arith, count-here nx ws))) (inl refl), tt)
 
-    mine : (ws : List ℕ) → vs ≡ ws → Words (s .top) (rebin (s .bins) z vs) (heir-puts s z ws)
+    mine : (ws : List ℕ) → vs ≡ ws → Words (s .top) (rebin (s .bins) z vs) (level-puts s z ws)
     mine [] e = tt
-    mine (nx ∷ ws) e = (
-      on-first nx z level-at is-large (rw (rebin-same, e)) (nonzero nx ws e) (inl refl),
-      words-each (s .top) (rebin (s .bins) z vs) (height (s .top) z) _
-          (λ j j1 l. on-first nx z (68 - 4 * j) is-large (rw (rebin-same, e)) (nonzero nx ws e) (inr (j, j1, l, refl))),
-    )
+    mine (nx ∷ ws) e = (on-first nx z level-at is-large (rw (rebin-same, e)) (nonzero nx ws e) (inl refl), tt)
+
+    links : (ws : List ℕ) → vs ≡ ws → (j : ℕ) → 1 ≤ j → j ≤ height (s .top) z → Word (s .top) (rebin (s .bins) z vs) (w j + (68 - 4 * j))
+        → Words (s .top) (rebin (s .bins) z vs) (link-puts s z w ws j)
+    links [] e j j1 l g = (g, tt)
+    links (nx ∷ ws) e j j1 l g = (on-first nx z (68 - 4 * j) is-large (rw (rebin-same, e)) (nonzero nx ws e) (inr (j, j1, l, refl)), (g, tt))
 
     pred : (j : ℕ) → 1 ≤ j → j ≤ height (s .top) z → Pred s z j (y₀ j) (w j) → Word (s .top) (rebin (s .bins) z vs) (w j + (68 - 4 * j))
     pred j j1 l P = go (P .who)

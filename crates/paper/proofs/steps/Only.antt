@@ -1,5 +1,5 @@
 -- A free large block enters a bin that was empty, at every level. s has it, `rebinned s z []` has not.
-use mathlib.Core.List.{List, [], _++_, _∷_}
+use mathlib.Core.List.{List, [], _∷_}
 use mathlib.Core.Logic.{_≢_, inl, inr}
 use mathlib.Core.Option.{none, some}
 use mathlib.Core.Path.{_∙_, _≡_, ap, refl, sym}
@@ -8,11 +8,11 @@ use native.Mathlib.Omega.{arith}
 use Rattle.heads.specs.Links.{linkWord}
 use Rattle.paper.proofs.bins.Bins.{first-count, lastOr, next-p, prev-p}
 use Rattle.paper.proofs.sheet.Fields.{at-back, at-level, at-on, at-word, false-word, height-le}
-use Rattle.paper.proofs.steps.First.{OnLevel, Pred, above-keep, first-z, found-p, p-at, p-in, pred-unique, reach-at, reach-is}
+use Rattle.paper.proofs.steps.First.{OnLevel, Pred, above-keep, first-z, found-p, link-puts, p-at, p-in, pred-unique, reach-at, reach-is}
 use Rattle.paper.proofs.steps.Leave.{NothingNew, frame, index-none, index-same}
 use Rattle.paper.proofs.steps.Leaving.{height-top, leaves, rebinned}
 use Rattle.paper.proofs.bins.Listed.{Loose, rebin-other, start}
-use Rattle.paper.proofs.sheet.StoreRuns.{each, elsewhere-append, elsewhere-each, good-append, good-each}
+use Rattle.paper.proofs.sheet.StoreRuns.{by-level, elsewhere-level, good-level}
 use Rattle.paper.proofs.sheet.Stores.{Elsewhere, Good}
 use Rattle.paper.proofs.runs.Walk.{In, in-aligned, in-low}
 use Rattle.paper.specs.Bins.{count, first, nextIn, prevIn, rebin}
@@ -24,13 +24,12 @@ use Rattle.words.specs.Choice.{by=, if=, ifs}
 unfoldable pub only-puts : State → ℕ → ℕ → (ℕ → ℕ) → List (ℕ × ℕ)
 only-puts s z p w =
     (p + previous-at, linkWord p 0) ∷ (p + next-at, linkWord p 0) ∷ (p + level-at, height (s .top) z)
-    ∷ (each (height (s .top) z) (λ j. (p + (68 - 4 * j), linkWord p (above (s .top) (end s) (s .bins) j z))) ++ each (height (s .top) z)
-    (λ j. (w j + (68 - 4 * j), linkWord (w j) p)))
+    ∷ by-level (height (s .top) z) (link-puts s z w (p ∷ []))
 
 module _ (s : State) (W : Loose s) (z p : ℕ) (is-in : s .bins z ≡ p ∷ []) (is-large : large ≤ z)
     (y₀ w : ℕ → ℕ) (preds : (j : ℕ) → 1 ≤ j → j ≤ height (s .top) z → Pred s z j (y₀ j) (w j)) where
   pub only-frame : (a : ℕ) → a % 4 ≡ 0 → Elsewhere a (only-puts s z p w) → NothingNew (sheet s a) (sheet (rebinned s z []) a)
-  unfolding only-puts lastOr first
+  unfolding only-puts link-puts lastOr first
   only-frame a al out =
       frame s (rebin (s .bins) z []) z p [] [] (leaves s W z p [] [] is-in is-large) (λ x y. NothingNew y x) (λ x y e. inr (sym e)) a al
       (λ e. absurd (out .0 e)) (λ e. absurd (out .1 .0 e)) (λ l. omega arith) (λ l. omega arith)
@@ -39,12 +38,11 @@ module _ (s : State) (W : Loose s) (z p : ℕ) (is-in : s .bins z ≡ p ∷ []) 
       (pred-unique s W z p [] is-in is-large j (y₀ j) (w j) 64 false-block l (preds j j1 l) (inl (refl, refl)) h))))
       index-words
     where
-      out-index : Elsewhere a (each (height (s .top) z) (λ j. (p + (68 - 4 * j), linkWord p (above (s .top) (end s) (s .bins) j z))))
-          × Elsewhere a (each (height (s .top) z) (λ j. (w j + (68 - 4 * j), linkWord (w j) p)))
-      out-index = elsewhere-append a (each (height (s .top) z) (λ j. (p + (68 - 4 * j), linkWord p (above (s .top) (end s) (s .bins) j z)))) _ (out .1 .1 .1)
+      out-words : (j : ℕ) → 1 ≤ j → j ≤ height (s .top) z → Elsewhere a (link-puts s z w (p ∷ []) j)
+      out-words = elsewhere-level a (height (s .top) z) (link-puts s z w (p ∷ [])) (out .1 .1 .1)
 
       out-links : (j : ℕ) → 1 ≤ j → j ≤ height (s .top) z → a ≢ w j + (68 - 4 * j)
-      out-links = elsewhere-each a (height (s .top) z) (λ j. (w j + (68 - 4 * j), linkWord (w j) p)) (out-index .1)
+      out-links j j1 l = out-words j j1 l .1 .0
 
       index-words : (q y P : ℕ) → In (blocks s) blocks-at 1 q (block y free) P → large ≤ y → q ≤ a → a < q + y
           → NothingNew (if= (first (s .bins y)) q (index (s .top) (end s) (s .bins) none (height (s .top) y) q y (a - q)) none)
@@ -56,7 +54,7 @@ module _ (s : State) (W : Loose s) (z p : ℕ) (is-in : s .bins z ≡ p ∷ []) 
           (λ e. inl (by= (first (s .bins y)) q
           (λ f. let pq : p ≡ q = sym (first-z s W z p [] is-in is-large) ∙ ap (λ (k : ℕ). first (s .bins k)) (sym e) ∙ f in
           simp ifs (index-none (s .top) (end s) (s .bins) (height (s .top) y) q y (a - q) o4 (height-top s W y) (λ k. out .1 .1 .0 (omega arith))
-          (λ j j1 jh k. elsewhere-each a (height (s .top) z) _ (out-index .0) j j1 (rw e at jh) (omega (arith, height-top s W y)))))
+          (λ j j1 jh k. out-words j j1 (rw e at jh) .0 (omega (arith, height-top s W y)))))
           (λ f. simp ifs)))
           (λ n. inr (rw (rebin-other (s .bins) z [] y n)
           (by= (first (s .bins y)) q
@@ -67,7 +65,7 @@ module _ (s : State) (W : Loose s) (z p : ℕ) (is-in : s .bins z ≡ p ∷ []) 
           (λ f. simp ifs))))
 
   pub only-good : Good (sheet s) (end s) (only-puts s z p w)
-  unfolding only-puts lastOr first count
+  unfolding only-puts link-puts lastOr first count
   only-good = (
     (
       omega (arith, p-start),
@@ -84,15 +82,16 @@ module _ (s : State) (W : Loose s) (z p : ℕ) (is-in : s .bins z ≡ p ∷ []) 
       ),
       (
         (omega (arith, p-start), omega (arith, p-start), at-level s p z (p-found .0) (p-found .1) is-large (first-z s W z p [] is-in is-large)),
-        good-append (sheet s) (end s) (each (height (s .top) z) (λ j. (p + (68 - 4 * j), linkWord p (above (s .top) (end s) (s .bins) j z)))) _
-            (good-each (sheet s) (end s) (height (s .top) z) _
+        good-level (sheet s) (end s) (height (s .top) z) (link-puts s z w (p ∷ []))
             (λ j j1 l. (
-              omega (arith, height-top s W z, p-start),
-              omega (arith, p-start),
-              at-word s p z (p-found .0) (p-found .1) is-large (first-z s W z p [] is-in is-large) j j1 l
-                  (W .top13),
-            )))
-            (good-each (sheet s) (end s) (height (s .top) z) _ (λ j j1 l. word-good j j1 l (preds j j1 l .who))),
+              (
+                omega (arith, height-top s W z, p-start),
+                omega (arith, p-start),
+                at-word s p z (p-found .0) (p-found .1) is-large (first-z s W z p [] is-in is-large) j j1 l
+                    (W .top13),
+              ),
+              (word-good j j1 l (preds j j1 l .who), tt),
+            )),
       ),
     ),
   )

@@ -8,27 +8,15 @@ returns : tie.Need-returns
 unfolding enterOnly
 returns c =
     let m1 = c .before .before in
-    let m2 = m1 .before .before .before .before .before in
-    let m3 = m2 .before .before .before .before .before in
+    let m2 = m1 .before .before .before .before in
+    let m3 = m2 .before .before .before .before in
     let m4 = m3 .before .before .before .before in
-    let m5 = m4 .before .before .before .before in
-    rw (
-      m1 .put-field5 .ensures,
-      m1 .before .link-word2 .ensures,
-      m2 .put-field4 .ensures,
-      m2 .before .link-word .ensures,
-      m3 .put-field3 .ensures,
-      m4 .put-field2 .ensures,
-      m5 .put-field .ensures,
-    )
+    rw (m1 .rehead .ensures, m2 .put-field3 .ensures, m3 .put-field2 .ensures, m4 .put-field .ensures)
 
 pub enter-only-spec : {M : Type 1} → statement M
 enter-only-spec =
     tie.close
     (tie.spec
-    (λ c κs. search needs)
-    (λ c κs. search needs)
-    (λ c κs. search needs)
     (λ c κs. search needs)
     (λ c κs. search needs)
     (λ c κs. search needs)

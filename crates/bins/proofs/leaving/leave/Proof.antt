@@ -17,13 +17,14 @@ returns-2 : tie.Need-returns-2
 unfolding leave
 returns-2 c =
     let m1 = c .before .before in
-    let m2 = m1 .before .before .before in
-    let m3 = m2 .before .before .before in
+    let m2 = m1 .before .before in
+    let m3 = m2 .before .before in
+    let m4 = m3 .before .before in
     rw (
-      if=-yes _ _ _ _ (sym (m3 .linked .ensures) ∙ m2 .before .before .if1 .left),
+      if=-yes _ _ _ _ (sym (m4 .before .linked .ensures) ∙ m4 .if1 .left),
       m1 .leave-first .ensures,
-      m1 .before .before .find .ensures,
-      m2 .size-of .ensures,
+      m2 .exact .ensures,
+      m3 .size-of .ensures,
     )
 
 pub leave-spec : {M : Type 1} → statement M

@@ -1,6 +1,6 @@
 -- records::request::read meets its contract: each way out is where the tests of the reader lead.
 use borrow.Author.Needs.{needs}
-use Rattle.records.proofs.Records.{past, no-body, short, laid, taken, given, other}
+use Rattle.records.proofs.Records.{past, no-body, short, laid, taken, given, indexed, other}
 use Rattle.records.proofs.request.read.Statement.{statement}
 use Rattle.records.proofs.request.read.Tie as tie
 
@@ -21,4 +21,6 @@ read-spec =
     (λ c. search taken)
     (λ c. search needs)
     (λ c. search given)
+    (λ c. search needs)
+    (λ c. search indexed)
     (λ c. search other))

@@ -1,0 +1,3 @@
+pub mod Clearing
+pub mod StoredSheet
+pub mod LaidOut
