@@ -58,11 +58,6 @@ module _ (t size : ℕ) (m : size < 2 ^ 32) where
       starts (λ (k : ℕ). height t size ≤ k) (λ e. omega arith) (λ e. omega arith)
       (λ e. omega (arith, reaches size (trailingZeros 32 (size / 8)) m (zeros-low 32 (size / 8) (omega arith))))
 
-  pub start-pos : 1 ≤ t → 1 ≤ startOf t size
-  start-pos l =
-      starts (λ (k : ℕ). 1 ≤ k) (λ e. omega arith) (λ e. l)
-      (λ e. omega (arith, reaches size 0 m (omega arith)))
-
 -- the index of a pool is 1 or 13 high
 pub top-cases : (bs : List ℕ) → (topOf bs ≡ 1) ⊎ (topOf bs ≡ 13)
 unfolding topOf

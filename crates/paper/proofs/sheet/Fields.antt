@@ -16,11 +16,6 @@ pub height-le : (t z : ℕ) → height t z ≤ t
 unfolding height
 height-le t z = omega arith
 
--- one level
-pub height-one : (t z : ℕ) → t ≡ 1 → height t z ≡ 1
-unfolding height
-height-one t z e = omega arith
-
 module _ (s : State) where
   abbrev pub At : ℕ → Block → ℕ → Type 0
   At q b P = In (blocks s) blocks-at 1 q b P
