@@ -46,6 +46,35 @@ static void inspections(size_t n) {
     }
 }
 
+// A move to the other layout, beside an inspection of the pool that it meets: a shape of layout 1, or what a move has made of it.
+static void one_conversion(const struct shape *shape, size_t n, uint32_t old) {
+    static uint8_t after[LARGEST];
+    char more[100];
+    shape->build(image, n);
+    if (old == 2 && plain_convert(image, n, 1) != n)
+        abort();
+    for (int l = 0; l < LIBRARIES; l++) {
+        uint64_t answer;
+        memcpy(pool, image, n);
+        COUNTED(libraries[l]->inspect(pool, n));
+        snprintf(more, sizeof more, "%zu | %u | %s inspection", n, old, libraries[l]->name);
+        done("conversion", shape->name, more, 1);
+        COUNTED(answer = libraries[l]->convert(pool, n, old));
+        snprintf(more, sizeof more, "%zu | %u | %s", n, old, libraries[l]->name);
+        done("conversion", shape->name, more, 1);
+        if (l == 0)
+            memcpy(after, pool, n);
+        if (answer != n || memcmp(pool, after, n))
+            abort();
+    }
+}
+
+static void conversions(size_t n) {
+    for (uint32_t old = 1; old <= 2; old++)
+        for (int s = 0; s < OF_LAYOUT_1; s++)
+            one_conversion(&shapes[s], n, old);
+}
+
 static uint64_t operate(const struct operation *o, const struct library *library, uint32_t argument) {
     uint64_t answer;
     memcpy(pool, image, LARGEST);
@@ -295,6 +324,8 @@ void count(void) {
         one_operation(&operations[o]);
     countings();
     finds();
+    conversions(LARGEST);
+    conversions(1024);
     banks();
     tape(1);
     tape(2);

@@ -12,7 +12,7 @@
 enum { FREE_WORD = 0, FALSE_WORD = 8, START = 16, END = 24, SMALL_BINS = 24, FALSE_BLOCK = 96, BLOCKS = 168 };
 enum { SMALL_NEXT = 4, PREVIOUS = 4, NEXT = 8, LEVEL = 12, CHAIN = 64, LARGE = 72, LEVELS = 13 };
 enum { NOT_ALLOWED = 1, NOT_SOUND, NO_SIZE, NO_ROOM, NOT_HELD, LIST_LENGTH, NO_LAYOUT = 8 };
-enum { NO_PISTON = 10, NO_RECORD, NOT_NAMED };
+enum { NO_PISTON = 10, NO_RECORD, NOT_NAMED, OTHER_LAYOUT };
 enum { HELD = 1, P = 2, LEAST_POOL = 176, GREATEST_POOL = 65536, CLASSES = 53, PISTONS = 32 };
 
 static inline uint32_t word(const uint8_t *pool, uint32_t at) {
@@ -464,6 +464,54 @@ uint64_t plain_lay_out(uint8_t *pool, size_t n, uint32_t layout) {
     put(pool, END, n);
     put(pool, FALSE_BLOCK + LEVEL, layout == 1 ? 1 : LEVELS);
     put(pool, BLOCKS, 4 * rest + P);
+    return n;
+}
+
+// Along the chain once. For each level above the lowest, `last` has the block that leads on from there: to the next first block that reaches
+// the level, or nowhere. Words that layout 1 leaves to chance are written, never read.
+static void to_layout_2(uint8_t *pool) {
+    uint32_t last[LEVELS], f = FALSE_BLOCK;
+    put(pool, f + LEVEL, LEVELS);
+    for (uint32_t level = 1; level < LEVELS; level++)
+        last[level] = f;
+    for (uint32_t on = word(pool, f + CHAIN); on != 0; on = word(pool, f + CHAIN)) {
+        f += on;
+        uint32_t h = height(LEVELS, size_at(pool, f));
+        put(pool, f + LEVEL, h);
+        for (uint32_t level = 1; level < h; level++) {
+            put(pool, last[level] + index_word(level), f - last[level]);
+            last[level] = f;
+        }
+    }
+    for (uint32_t level = 1; level < LEVELS; level++)
+        put(pool, last[level] + index_word(level), 0);
+}
+
+// Of a first block only the level word changes: its upper words are no longer governed, and stay. Those of the false block must be 0.
+static void to_layout_1(uint8_t *pool) {
+    uint32_t f = FALSE_BLOCK;
+    put(pool, f + LEVEL, 1);
+    memset(pool + f + LEVEL + 4, 0, CHAIN - LEVEL - 4);
+    for (uint32_t on = word(pool, f + CHAIN); on != 0; on = word(pool, f + CHAIN)) {
+        f += on;
+        put(pool, f + LEVEL, 1);
+    }
+}
+
+// From the layout that is named as old to the other.
+uint64_t plain_convert(uint8_t *pool, size_t n, uint32_t old) {
+    if (!allowed(n))
+        return refused(NOT_ALLOWED);
+    if (old != 1 && old != 2)
+        return refused(NO_LAYOUT);
+    if (!sound(pool, n))
+        return refused(NOT_SOUND);
+    if (levels_of(pool) != (old == 1 ? 1 : LEVELS))
+        return refused(OTHER_LAYOUT);
+    if (old == 1)
+        to_layout_2(pool);
+    else
+        to_layout_1(pool);
     return n;
 }
 

@@ -9,6 +9,7 @@
 #include <stdint.h>
 
 uint64_t plain_lay_out(uint8_t *pool, size_t n, uint32_t layout);
+uint64_t plain_convert(uint8_t *pool, size_t n, uint32_t old);
 uint64_t plain_inspect(const uint8_t *pool, size_t n);
 uint64_t plain_take(uint8_t *pool, size_t n, uint32_t size);
 uint64_t plain_give_back(uint8_t *pool, size_t n, uint32_t offset);

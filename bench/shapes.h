@@ -4,13 +4,13 @@
 #include <stddef.h>
 #include <stdint.h>
 
-enum { SHAPES = 6, OPERATIONS = 15, REQUESTS = 4000, RECORDS = 200, LARGEST = 65536 };
+enum { SHAPES = 6, OF_LAYOUT_1 = 5, OPERATIONS = 15, REQUESTS = 4000, RECORDS = 200, LARGEST = 65536 };
 
 struct shape {
     const char *name;
     void (*build)(uint8_t *pool, size_t n);
 };
-extern const struct shape shapes[SHAPES];
+extern const struct shape shapes[SHAPES]; // those of layout 1 come first
 
 // A take or a give-back on a shape. `argument` finds the size or the offset, and may change the pool first.
 struct operation {

@@ -185,10 +185,11 @@ static int command(int letter) {
             printf(" %u", counts[i]);
         return 1;
     }
-    if (letter == 0 || !strchr("MTGAPW", letter) || !number(&v))
+    if (letter == 0 || !strchr("MYTGAPW", letter) || !number(&v))
         return 0;
     switch (letter) {
     case 'M': line('M', CALL(lay_out)(pool, n, v)); return 1;
+    case 'Y': line('Y', CALL(convert)(pool, n, v)); return 1;
     case 'T': line('T', CALL(take)(pool, n, v)); return 1;
     case 'G': line('G', CALL(give_back)(pool, n, v)); return 1;
     case 'A': line('A', CALL(ask)(pool, n, v)); return 1;

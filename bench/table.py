@@ -4,7 +4,7 @@
                            the counts: valgrind's dumps, or the lines of steps.
                            In DOCS/BENCH.md only what stands between the two marker lines is replaced.
 
-Ends with status 1, after it has written both, where a call of the piston bank or layout 2 costs more than it may.
+Ends with status 1, after it has written both, where a call of the piston bank, layout 2 or the move to the other layout costs more than it may.
 """
 
 import glob
@@ -22,6 +22,8 @@ CONSOLE, MOST = ("mixed console", "65536"), {"set": 5, "recall": 3}
 # layout 1's; its inspection as a multiple of layout 1's. Against plain C the inspection has the goal above.
 BINS, BINS_2 = "many free large bins", "many free large bins, layout 2"
 CALLS_PART, INSPECTION_PART = 0.5, 1.4
+# What a move to the other layout may cost at most, in inspections of the pool that it meets.
+MOVE = 3
 FILE = ["C file", "C file over proved"]
 BEGIN, END = "<!-- measured: begin -->", "<!-- measured: end -->"
 
@@ -208,6 +210,23 @@ class Report:
                 rows.append(row)
         return table(["Take", "Bins", "Proved, layout 1", "Layout 2", "2 over 1", "Plain C, layout 1", "Layout 2", "2 over 1"], rows)
 
+    def moves(self, n):
+        """For each move of a pool of n bytes the old layout, the pool, what it costs by each library, and the same in inspections."""
+        for kind, shape, size, old in unique(key[:4] for key in self.count if key[0] == "conversion" and key[2] == str(n)):
+            cost = {who: self.count[kind, shape, size, old, who] for who in ("proved", "plain")}
+            yield old, shape, cost, {who: cost[who] / self.count[kind, shape, size, old, who + " inspection"] for who in cost}
+
+    def conversions(self, n):
+        rows = []
+        for old, shape, cost, inspections in self.moves(n):
+            rows.append([f"{shape}: {'1 to 2' if old == '1' else '2 to 1'}", number(cost["proved"]), as_text(inspections["proved"], MOVE),
+                         number(cost["plain"]), as_text(inspections["plain"], MOVE), ratio(cost["proved"], cost["plain"]),
+                         *self.file(("conversion", shape, str(n), old))])
+        return table(["Move", "Proved", "In inspections", "Plain C", "In inspections", "Ratio", *FILE], rows)
+
+    def dearest_move(self):
+        return max(inspections["proved"] for n in (65536, 1024) for *_, inspections in self.moves(n))
+
     def dearest(self):
         """What the dearest set and the dearest recall cost in inspections, and what they may cost."""
         for call, most in MOST.items():
@@ -258,6 +277,9 @@ class Report:
         for sentence, cost, most in self.limits_of_layouts():
             out.append(sentence.format(as_text(cost, most)) + f", and may cost {most}.")
         out += ["", "### Finding a bin: instructions of a take, less an inspection of its pool", ""] + self.finds()
+        out += ["### Moving to the other layout: instructions a call, a pool of 65,536 bytes", ""] + self.conversions(65536)
+        out += ["### Moving to the other layout: instructions a call, a pool of 1,024 bytes", ""] + self.conversions(1024)
+        out += [f"A move costs {as_text(self.dearest_move(), MOVE)} inspections, the dearest of these, and may cost {MOVE}.", ""]
         out += ["### Figures and class count: instructions a call, a pool of 65,536 bytes", ""] + self.countings()
         out += ["### The piston bank: instructions a call, the mixed console of 65,536 bytes with 32 pistons set", ""] + self.bank()
         for call, cost, most in self.dearest():
@@ -315,6 +337,8 @@ def main():
     dear = [f"a {call} costs {as_text(cost, most)} inspections, and may cost {most}"
             for call, cost, most in report.dearest() if cost > most]
     dear += [sentence.format(as_text(cost, most)) + f", and may cost {most}" for sentence, cost, most in report.limits_of_layouts() if cost > most]
+    if report.dearest_move() > MOVE:
+        dear.append(f"a move to the other layout costs {as_text(report.dearest_move(), MOVE)} inspections, and may cost {MOVE}")
     if dear:
         sys.exit("bench/table.py: " + "; ".join(dear))
 

@@ -44,6 +44,7 @@
 #define PAPER_LARGE 72u
 #define PAPER_FALSE_BLOCK 96u
 #define PAPER_BLOCKS 168u
+#define CONVERT_OTHER_LAYOUT 13u
 
 typedef struct {
     uint32_t size;
@@ -1493,6 +1494,63 @@ static inline uint32_t bins_take_out(unsigned char *pool, size_t pool_len, bins_
     return second;
 }
 
+// ---- moving: a sound pool gets an index of another height, in its own bytes
+
+// The first block f, h levels high: its level word; and on each of its levels from 2 on the last one leads to it, and it is the last one now.
+static inline void moving_stand(unsigned char *pool, size_t pool_len, uint32_t lasts[12], uint32_t h, uint32_t f)
+{
+    if (PAPER_LEVELS < h) {
+        return;
+    }
+    words_put_field(pool, pool_len, f, PAPER_LEVEL, h);
+    uint32_t level = 2u;
+    while (level <= h) {
+        uint64_t i = (uint64_t)(level - 2u);
+        uint32_t last = lasts[i];
+        words_put_field(pool, pool_len, last, levels_word(level), heads_link_word(last, f));
+        lasts[i] = f;
+        level = level + 1u;
+    }
+}
+
+// From bin to bin along level 1. In a sound pool the sizes rise; where they do not, the pass ends.
+static inline void moving_pass(unsigned char *pool, size_t pool_len, uint32_t lasts[12], uint32_t top)
+{
+    uint32_t y = 64u;
+    uint32_t f = bins_linked(pool, pool_len, PAPER_FALSE_BLOCK, 64u);
+    while (f != 0u) {
+        uint32_t z = bins_size_of(pool, pool_len, f);
+        if (z <= y) {
+            return;
+        }
+        moving_stand(pool, pool_len, lasts, levels_height(top, z), f);
+        y = z;
+        f = bins_linked(pool, pool_len, f, 64u);
+    }
+}
+
+// On each level from 2 on nothing comes past the last one.
+static inline void moving_close(unsigned char *pool, size_t pool_len, const uint32_t lasts[12])
+{
+    uint32_t level = 2u;
+    while (level <= PAPER_LEVELS) {
+        words_put_field(pool, pool_len, lasts[(uint64_t)(level - 2u)], levels_word(level), 0u);
+        level = level + 1u;
+    }
+}
+
+// Moves a sound pool to an index `top` high, 1 or 13. The false block's level word is last, so until then the pool says what it was.
+static inline void moving_move_to(unsigned char *pool, size_t pool_len, uint32_t top)
+{
+    uint32_t lasts[12];
+    for (size_t each = 0u; each < 12u; each++) {
+        lasts[each] = PAPER_FALSE_BLOCK;
+    }
+    moving_pass(pool, pool_len, lasts, top);
+    moving_close(pool, pool_len, lasts);
+    words_put_field(pool, pool_len, PAPER_FALSE_BLOCK, PAPER_LEVEL, top);
+}
+
 // ---- choosing: where a block for a payload would come from; nothing is stored
 
 static inline choosing_Rest choosing_remainder(const unsigned char *pool, size_t pool_len)
@@ -2095,6 +2153,49 @@ static inline paper_Tally pool_lib_figures(const unsigned char *pool, size_t poo
     return paper_Tally_Counted(walk_tally(pool, pool_len));
 }
 
+// ---- convert: a pool moves from one layout to the other, a call above the pool
+
+// The number that the call is refused with, in the order 1, 8, 2, 13; 0 where nothing refuses it.
+static inline uint8_t convert_refusal(const unsigned char *pool, size_t pool_len, uint32_t old)
+{
+    uint8_t read = reading_refusal(pool, pool_len);
+    uint32_t named = laying_top_of(old);
+    uint32_t top = levels_top(pool, pool_len);
+    if (read == PAPER_NOT_ALLOWED) {
+        return PAPER_NOT_ALLOWED;
+    }
+    if (named == 0u) {
+        return PAPER_NO_LAYOUT;
+    }
+    if (read != 0u) {
+        return PAPER_NOT_SOUND;
+    }
+    if (top != named) {
+        return CONVERT_OTHER_LAYOUT;
+    }
+    return 0u;
+}
+
+// The other layout's number.
+static inline uint32_t convert_other(uint32_t layout)
+{
+    if (layout == 1u) {
+        return 2u;
+    }
+    return 1u;
+}
+
+// Moves the pool from the layout `old` to the other one; answers its length.
+static inline paper_Answer convert_convert(unsigned char *pool, size_t pool_len, uint32_t old)
+{
+    uint8_t why = convert_refusal(pool, pool_len, old);
+    if (why != 0u) {
+        return paper_Answer_Refused(why);
+    }
+    moving_move_to(pool, pool_len, laying_top_of(convert_other(old)));
+    return paper_Answer_Done((uint32_t)pool_len);
+}
+
 // ---- board: the public calls for C
 
 // The refusal's number in the upper half, the value in the lower half.
@@ -2119,6 +2220,12 @@ uint64_t pool_ask(const unsigned char *pool, size_t pool_len, uint32_t offset)
 uint64_t pool_class_count(const unsigned char *pool, size_t pool_len, uint32_t *counts, size_t counts_len)
 {
     return board_of(pool_lib_class_count(pool, pool_len, counts, counts_len));
+}
+
+// Moves the pool from the layout `old` to the other one; answers its length.
+uint64_t pool_convert(unsigned char *pool, size_t pool_len, uint32_t old)
+{
+    return board_of(convert_convert(pool, pool_len, old));
 }
 
 // Takes the block of the payload at `offset` back; answers the payload's bytes.

@@ -32,7 +32,8 @@
    - `body` points to `length` bytes of one object, which have been written before and which share no byte with pool and bank: a recalled
      record is copied out of the pool before it is set again. Of an empty body (length 0) nothing is read, and NULL will do.
    - Nobody else writes these bytes during the call; while a call writes, nobody else reads them.
-   - Pool and bank belong together: both stand in the battery-backed memory, and are saved and brought back as one.
+   - Pool and bank belong together: both stand in the battery-backed memory, and are saved and brought back as one. A pool that pool_convert
+     has moved is still the same pool, and the numbers stay good.
    No other rule: any n, numbers, piston, kind and length get an answer, and a refusal changes no byte of pool and bank.
 
    What 12 (BANK_NOT_NAMED) means: somebody else has been at the pool or at the bank, or they are of different times. There are two cases:

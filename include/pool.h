@@ -15,6 +15,7 @@
 
    A pool has one of two layouts, which the laying out names. Every call serves both and gives the same answers. Layout 2 has an index over the
    free large blocks: it finds one faster where many different sizes are free, and its bytes are not for firmware that knows layout 1 alone.
+   pool_convert moves a pool from one to the other in the same bytes, and every payload stays as it is and where it is.
 
    The bytes of a pool of n bytes; words are little-endian, of 8 bytes in the header and of 4 elsewhere (docs/FORMAT.md has every word):
 
@@ -35,7 +36,7 @@
    is aligned to 4, and never to 8.
 
    What you owe, since C cannot check it:
-   - `pool` points to n bytes of one object. pool_lay_out, pool_take and pool_give_back write them, the others only read.
+   - `pool` points to n bytes of one object. pool_lay_out, pool_take, pool_give_back and pool_convert write them, the others only read.
      They have been written before (any value will do), and `pool` needs no alignment.
    - `figures` and `counts` point to `count` numbers of one array of uint32_t, aligned as such, that have been written before
      and that share no byte with the pool.
@@ -61,7 +62,7 @@
 #define POOL_H
 
 /* What changed with each version: docs/CHANGES.md. */
-#define POOL_VERSION "0.4.0"
+#define POOL_VERSION "0.5.0"
 
 #include <stddef.h>
 #include <stdint.h>
@@ -70,16 +71,18 @@
 extern "C" {
 #endif
 
-/* The refusals' numbers, and 0. They are asked in this order. A refusal changes no byte of the pool and of the list. */
+/* The refusals' numbers, and 0. Each call asks for its own in the order in which it names them. A refusal changes no byte of the pool and of
+   the list. */
 enum {
     POOL_DONE = 0,
-    POOL_NOT_ALLOWED = 1, /* n is not a multiple of 8 from 176 to 65,536 */
-    POOL_NOT_SOUND = 2,   /* the bytes are no pool that honest calls made */
-    POOL_SIZE_ZERO = 3,   /* the size is 0 */
-    POOL_NO_ROOM = 4,     /* no room by the grant rule */
-    POOL_NOT_HELD = 5,    /* the offset is not the start of a held payload */
-    POOL_LIST_LENGTH = 6, /* the list has not 7 figures, or not 53 counters */
-    POOL_NO_LAYOUT = 8    /* the layout's number is neither 1 nor 2 */
+    POOL_NOT_ALLOWED = 1,  /* n is not a multiple of 8 from 176 to 65,536 */
+    POOL_NOT_SOUND = 2,    /* the bytes are no pool that honest calls made */
+    POOL_SIZE_ZERO = 3,    /* the size is 0 */
+    POOL_NO_ROOM = 4,      /* no room by the grant rule */
+    POOL_NOT_HELD = 5,     /* the offset is not the start of a held payload */
+    POOL_LIST_LENGTH = 6,  /* the list has not 7 figures, or not 53 counters */
+    POOL_NO_LAYOUT = 8,    /* the layout's number is neither 1 nor 2 */
+    POOL_OTHER_LAYOUT = 13 /* the pool has not the layout that was named as its old one */
 };
 
 /* Every call returns one number: the refusal in its upper 32 bits, the value in its lower 32 bits. Done, the refusal is 0; refused, the
@@ -104,6 +107,12 @@ uint64_t pool_give_back(unsigned char *pool, size_t n, uint32_t offset);
 
 /* Asks about the payload at `offset`. Value: how many bytes it has. Refused: 1, 2, 5. */
 uint64_t pool_ask(const unsigned char *pool, size_t n, uint32_t offset);
+
+/* Moves the pool from the layout `old` to the other one, in the same bytes. Value: n. Refused: 1, 8, 2, 13.
+   Blocks, held payloads and the order of every list stay, so every offset means what it meant. Moved back, a pool that began in layout 2 has all
+   its bytes again. One that began in layout 1 differs at most in words that layout 1 leaves unused: +16 to +60 of a free large block that
+   comes first in its list (docs/FORMAT.md). */
+uint64_t pool_convert(unsigned char *pool, size_t n, uint32_t old);
 
 /* The figures' places in the list. */
 enum {

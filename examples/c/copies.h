@@ -8,6 +8,9 @@
        r = bank_set(change->pool, sizeof change->pool, change->bank, 3, BANK_EIGHT, tabs, sizeof tabs);
        complete(&memory, change);                       from here on the change holds
 
+   A move to the other layout (pool_convert) is such a change too. Move back before older firmware comes on the board: it refuses the copy of
+   layout 2, and would believe the other one, with the records of before.
+
    After a reset believed(&memory) has pool and bank as they were before the change or as they were after it. It is NULL in memory that was
    never laid out: call lay_out_first then, with the layout's number, before the first begin. Where stores wait in a cache, `in_order` has to push them out too. */
 #ifndef COPIES_H

@@ -46,14 +46,17 @@ __attribute__((force_align_arg_pointer)) static void one_step(int number) {
 }
 
 /* Each change: takes a block of so many bytes and fills it; gives back what the change of that number took; sets that piston to a record of
-   that kind; or clears it. */
-enum what { TAKE, GIVE, SET, CLEAR };
+   that kind; clears it; or moves the pool to the layout that it has not. */
+enum what { TAKE, GIVE, SET, CLEAR, MOVE };
 static const struct change { enum what what; uint32_t number; uint8_t kind; } changes[] = {
     {TAKE, 100, 0}, {TAKE, 10, 0}, {TAKE, 72, 0}, {TAKE, 200, 0}, {TAKE, 10, 0}, {GIVE, 0, 0},  {GIVE, 2, 0}, {TAKE, 60, 0},
     {GIVE, 3, 0},   {TAKE, 90, 0}, {GIVE, 9, 0},  {GIVE, 1, 0},   {GIVE, 4, 0},  {TAKE, 300, 0}, {SET, 3, 1},  {SET, 5, 3},
-    {SET, 3, 2},    {SET, 5, 3},   {SET, 0, 1},   {CLEAR, 3, 0},  {SET, 5, 2},   {CLEAR, 5, 0},
+    {SET, 3, 2},    {SET, 5, 3},   {SET, 0, 1},   {CLEAR, 3, 0},  {SET, 5, 2},   {CLEAR, 5, 0}, {GIVE, 13, 0},
+    /* three bins, which reach 2, 3 and 5 levels of the index */
+    {TAKE, 76, 0},  {TAKE, 68, 0}, {TAKE, 92, 0}, {TAKE, 68, 0},  {TAKE, 124, 0}, {TAKE, 68, 0}, {GIVE, 23, 0}, {GIVE, 25, 0}, {GIVE, 27, 0},
+    {MOVE, 0, 0},   {SET, 7, 3},   {TAKE, 92, 0}, {MOVE, 0, 0},
 };
-enum { CHANGES = sizeof changes / sizeof changes[0] };
+enum { CHANGES = sizeof changes / sizeof changes[0], LEVEL_WORD = 108 /* tells the layout */ };
 static uint32_t offsets[CHANGES];
 
 static void make(struct copy *copy, int i) {
@@ -66,6 +69,7 @@ static void make(struct copy *copy, int i) {
     case TAKE: r = pool_take(copy->pool, POOL_BYTES, c->number); break;
     case GIVE: r = pool_give_back(copy->pool, POOL_BYTES, offsets[c->number]); break;
     case SET: r = bank_set(copy->pool, POOL_BYTES, copy->bank, c->number, c->kind, tabs, BODY[c->kind]); break;
+    case MOVE: r = pool_convert(copy->pool, POOL_BYTES, copy->pool[LEVEL_WORD] == 1 ? POOL_LAYOUT_1 : POOL_LAYOUT_2); break;
     default: r = bank_clear(copy->pool, POOL_BYTES, copy->bank, c->number);
     }
     if (pool_refusal(r)) {

@@ -6,13 +6,13 @@
 #include "pool.h"
 
 enum { ROOM = 65544, AROUND = 16, LIST = 56 };
-enum call { LAY_OUT, INSPECT, TAKE, GIVE_BACK, ASK, FIGURES, CLASS_COUNT };
-static const char *const NAMES[] = {"lay_out", "inspect", "take", "give_back", "ask", "figures", "class_count"};
+enum call { LAY_OUT, CONVERT, INSPECT, TAKE, GIVE_BACK, ASK, FIGURES, CLASS_COUNT };
+static const char *const NAMES[] = {"lay_out", "convert", "inspect", "take", "give_back", "ask", "figures", "class_count"};
 
 static unsigned char bytes[AROUND + ROOM + AROUND], kept[sizeof bytes];
 static uint32_t list[LIST + 4], kept_list[LIST + 4];
 static unsigned char *pool = bytes + AROUND; /* where the pool stands: one round at an odd address */
-static uint32_t layout;
+static uint32_t layout, other; /* the round's layout, and the one that it is not */
 static unsigned passed, failed;
 
 static void expect(int holds, const char *what) {
@@ -29,6 +29,7 @@ static uint64_t make(enum call call, size_t n, uint32_t number, size_t count) {
     uint32_t *numbers = count ? list : NULL;
     switch (call) {
     case LAY_OUT: return pool_lay_out(at, n, number);
+    case CONVERT: return pool_convert(at, n, number);
     case INSPECT: return pool_inspect(at, n);
     case TAKE: return pool_take(at, n, number);
     case GIVE_BACK: return pool_give_back(at, n, number);
@@ -63,6 +64,8 @@ static void done(enum call call, size_t n, uint32_t number, size_t count, uint32
 static void refused(enum call call, size_t n, uint32_t number, size_t count, uint32_t refusal) { with(call, n, number, count, refusal, 0); }
 
 enum { FALSE_BLOCK = 96 };
+static const uint32_t NO_LAYOUT[] = {0, 3, 4, 8, 13, 256, 257, 258, 65537, 65538, 0x80000001u, 0xFFFFFFFFu};
+enum { NO_LAYOUTS = sizeof NO_LAYOUT / sizeof *NO_LAYOUT };
 
 /* A word of the pool, as a signed number. */
 static int32_t word(uint32_t at) {
@@ -85,11 +88,16 @@ static void lengths(void) {
         for (call = LAY_OUT; call <= CLASS_COUNT; call++) {
             refused((enum call)call, WRONG[i], 0, 0, POOL_NOT_ALLOWED);
             refused((enum call)call, WRONG[i], 100, call == FIGURES ? 7 : 53, POOL_NOT_ALLOWED);
+            refused((enum call)call, WRONG[i], layout, 0, POOL_NOT_ALLOWED);
         }
     for (i = 0; i < sizeof RIGHT / sizeof *RIGHT; i++) {
         uint32_t n = (uint32_t)RIGHT[i], largest;
         refused(LAY_OUT, n, 0, 0, POOL_NO_LAYOUT);
         done(LAY_OUT, n, layout, 0, n);
+        refused(CONVERT, n, other, 0, POOL_OTHER_LAYOUT);
+        done(CONVERT, n, layout, 0, n);
+        refused(CONVERT, n, layout, 0, POOL_OTHER_LAYOUT);
+        done(CONVERT, n, other, 0, n);
         done(INSPECT, n, 0, 0, n);
         done(FIGURES, n, 0, 7, 0);
         largest = n == 176 ? 0 : n - 180; /* the remainder less the 8 bytes that it keeps, less 4 for the head */
@@ -99,13 +107,23 @@ static void lengths(void) {
     }
 }
 
+/* A pool that is not sound is not moved either: 2 is asked before 13, but after 8. */
+static void not_sound(void) {
+    refused(INSPECT, 1024, 0, 0, POOL_NOT_SOUND);
+    refused(CONVERT, 1024, 3, 0, POOL_NO_LAYOUT);
+    refused(CONVERT, 1024, POOL_LAYOUT_1, 0, POOL_NOT_SOUND);
+    refused(CONVERT, 1024, POOL_LAYOUT_2, 0, POOL_NOT_SOUND);
+}
+
 static void unsound(void) {
     int call;
     memset(pool, 0, 1024);
+    not_sound();
     for (call = INSPECT; call <= CLASS_COUNT; call++) refused((enum call)call, 1024, 0, 0, POOL_NOT_SOUND);
     done(LAY_OUT, 1024, layout, 0, 1024);
     done(TAKE, 1024, 100, 0, 172);
     pool[168] ^= 1; /* the head says free, and no bin has it */
+    not_sound();
     for (call = INSPECT; call <= CLASS_COUNT; call++) refused((enum call)call, 1024, 172, 53, POOL_NOT_SOUND);
     pool[168] ^= 1;
     done(INSPECT, 1024, 0, 0, 1024);
@@ -136,10 +154,9 @@ static void worked(void) {
 /* The refusals of a call's own, on the worked pool. */
 static void refusals(void) {
     static const uint32_t NOT_HELD[] = {0, 4, 168, 171, 173, 176, 276, 556, 1008, 1020, 1024, 1028, 0x80000000u, 0xFFFFFFFFu};
-    static const uint32_t NO_LAYOUT[] = {0, 3, 4, 8, 13, 256, 257, 258, 65537, 65538, 0x80000001u, 0xFFFFFFFFu};
     static const size_t NOT_7[] = {0, 1, 6, 8, 53}, NOT_53[] = {0, 7, 52, 54};
     size_t i;
-    for (i = 0; i < sizeof NO_LAYOUT / sizeof *NO_LAYOUT; i++) refused(LAY_OUT, 1024, NO_LAYOUT[i], 0, POOL_NO_LAYOUT);
+    for (i = 0; i < NO_LAYOUTS; i++) refused(LAY_OUT, 1024, NO_LAYOUT[i], 0, POOL_NO_LAYOUT);
     refused(TAKE, 1024, 0, 0, POOL_SIZE_ZERO);
     refused(TAKE, 1024, 405, 0, POOL_NO_ROOM);
     refused(TAKE, 1024, 65536, 0, POOL_NO_ROOM);
@@ -170,19 +187,123 @@ static void levels(void) {
         for (k = 0; k < height; k++) expect(word(BINS[i] + 64 - 4 * k) == NEXT[i], "a first block's index words");
         for (k = 0; k < 13; k++) {
             pool[BINS[i] + 64 - 4 * k] ^= 8;
-            if (k < height) refused(INSPECT, 1024, 0, 0, POOL_NOT_SOUND);
+            if (k < height) not_sound();
             else done(INSPECT, 1024, 0, 0, 1024);
             pool[BINS[i] + 64 - 4 * k] ^= 8;
         }
     }
     for (i = 0; i < 72; i++) { /* every byte of the false block */
         pool[96 + i] ^= 1;
-        refused(INSPECT, 1024, 0, 0, POOL_NOT_SOUND);
+        not_sound();
         pool[96 + i] ^= 1;
     }
     done(INSPECT, 1024, 0, 0, 1024);
     done(TAKE, 1024, 92, 0, 468);
     expect(word(FALSE_BLOCK + 56) == (layout == POOL_LAYOUT_1 ? 0 : 536), "level 3 leads past the bin that is gone");
+}
+
+/* A bin, by its first block. */
+struct bin { uint32_t start, size; };
+
+static void put(unsigned char *in, uint32_t at, uint32_t value) {
+    int i;
+    for (i = 0; i < 4; i++) in[at + (uint32_t)i] = (unsigned char)(value >> 8 * i);
+}
+
+static uint32_t height(uint32_t size) {
+    uint32_t h = 1;
+    for (size /= 8; size % 2 == 0 && h < 13; size /= 2) h++;
+    return h;
+}
+
+static unsigned char before[ROOM], image[ROOM];
+
+/* Writes the index of these bins into the image, as layout `to` has it, and no other byte: the words of levels that are not reached stay. */
+static void write_index(uint32_t to, const struct bin *bins, int count) {
+    uint32_t levels = to == POOL_LAYOUT_1 ? 1 : 13, level;
+    int i;
+    put(image, FALSE_BLOCK + 12, levels);
+    for (i = 0; i < count; i++) put(image, bins[i].start + 12, to == POOL_LAYOUT_1 ? 1 : height(bins[i].size));
+    for (level = 1; level <= 13; level++) {
+        uint32_t at = FALSE_BLOCK, in_block = 64 - 4 * (level - 1);
+        for (i = 0; i < count; i++)
+            if (level <= levels && level <= height(bins[i].size)) {
+                put(image, at + in_block, bins[i].start - at);
+                at = bins[i].start;
+            }
+        put(image, at + in_block, 0);
+    }
+}
+
+/* The refusals on a sound pool, a move to the other layout and one back: each time the index is the new one, and every other byte stays. */
+static void there_and_back(uint32_t n, const struct bin *bins, int count) {
+    uint32_t level;
+    int i;
+    memcpy(before, pool, n);
+    memcpy(image, pool, n);
+    for (i = 0; i < NO_LAYOUTS; i++) refused(CONVERT, n, NO_LAYOUT[i], 0, POOL_NO_LAYOUT);
+    refused(CONVERT, n, other, 0, POOL_OTHER_LAYOUT);
+    done(CONVERT, n, layout, 0, n);
+    write_index(other, bins, count);
+    expect(!memcmp(pool, image, n), "moved, the pool has the other layout's index, and its old bytes elsewhere");
+    done(INSPECT, n, 0, 0, n);
+    refused(CONVERT, n, layout, 0, POOL_OTHER_LAYOUT);
+    done(CONVERT, n, other, 0, n);
+    write_index(layout, bins, count);
+    expect(!memcmp(pool, image, n), "moved back, the pool has the old layout's index, and its old bytes elsewhere");
+    done(INSPECT, n, 0, 0, n);
+    /* what layout 2 wrote above level 1 is left in a pool of layout 1, which does not govern it */
+    for (i = 0; i < count && layout == POOL_LAYOUT_1; i++)
+        for (level = 2; level <= height(bins[i].size); level++) {
+            uint32_t at = bins[i].start + 64 - 4 * (level - 1);
+            memcpy(image + at, before + at, 4);
+        }
+    expect(!memcmp(before, image, n), "there and back, nothing else differs");
+}
+
+/* Takes payloads of these sizes, which get these offsets, and writes them full. */
+static void take_all(uint32_t n, const uint32_t (*blocks)[2], size_t count) {
+    size_t i;
+    for (i = 0; i < count; i++) {
+        done(TAKE, n, blocks[i][0], 0, blocks[i][1]);
+        memset(pool + blocks[i][1], (int)(0xB0 + i), blocks[i][0]);
+    }
+}
+
+/* Free blocks of 80, 96 (two of them) and 128 bytes, and two small ones, with held ones in between. */
+static void moves(void) {
+    static const uint32_t BLOCKS[][2] = {{92, 172}, {68, 268}, {76, 340}, {68, 420},  {124, 492}, {68, 620},
+                                         {92, 692}, {68, 788}, {12, 1012}, {60, 948}, {12, 932}};
+    static const uint32_t BACK[][2] = {{172, 92}, {692, 92}, {340, 76}, {492, 124}, {1012, 12}, {932, 12}};
+    static const uint32_t HELD[][2] = {{268, 68}, {420, 68}, {620, 68}, {788, 68}, {948, 60}}, FIGURES_THEN[7] = {5, 352, 2, 4, 72, 500, 124};
+    static const struct bin BINS[] = {{336, 80}, {168, 96}, {488, 128}}, LEFT[] = {{336, 80}, {488, 128}};
+    size_t i;
+    done(LAY_OUT, 1024, layout, 0, 1024);
+    take_all(1024, BLOCKS, sizeof BLOCKS / sizeof *BLOCKS);
+    for (i = 0; i < sizeof BACK / sizeof *BACK; i++) done(GIVE_BACK, 1024, BACK[i][0], 0, BACK[i][1]);
+    there_and_back(1024, BINS, 3);
+    done(CONVERT, 1024, layout, 0, 1024);
+    for (i = 0; i < sizeof HELD / sizeof *HELD; i++) done(ASK, 1024, HELD[i][0], 0, HELD[i][1]);
+    for (i = 0; i < sizeof BACK / sizeof *BACK; i++) refused(ASK, 1024, BACK[i][0], 0, POOL_NOT_HELD);
+    done(FIGURES, 1024, 0, 7, 5);
+    expect(!memcmp(list, FIGURES_THEN, sizeof FIGURES_THEN), "the seven figures of a pool that was moved");
+    done(TAKE, 1024, 92, 0, 692); /* the second of its bin, as in the old layout */
+    done(TAKE, 1024, 92, 0, 172);
+    done(CONVERT, 1024, other, 0, 1024);
+    there_and_back(1024, LEFT, 2);
+}
+
+/* The greatest pool, with bins up to all thirteen levels. */
+static void all_levels(void) {
+    enum { N = 65536 };
+    static const uint32_t BLOCKS[][2] = {{68, 172},    {68, 244},     {1020, 316},    {68, 1340},     {8188, 1412},
+                                         {68, 9604},   {16380, 9676}, {68, 26060},    {32764, 26132}, {68, 58900}};
+    static const struct bin BINS[] = {{168, 72}, {312, 1024}, {1408, 8192}, {9672, 16384}, {26128, 32768}};
+    int i;
+    done(LAY_OUT, N, layout, 0, N);
+    take_all(N, BLOCKS, sizeof BLOCKS / sizeof *BLOCKS);
+    for (i = 4; i >= 0; i--) done(GIVE_BACK, N, BINS[i].start + 4, 0, BINS[i].size - 4);
+    there_and_back(N, BINS, 5);
 }
 
 int main(void) {
@@ -192,11 +313,14 @@ int main(void) {
         memset(list, 0x5A, sizeof list);
         pool = bytes + AROUND - round % 2;
         layout = round < 2 ? POOL_LAYOUT_1 : POOL_LAYOUT_2;
+        other = round < 2 ? POOL_LAYOUT_2 : POOL_LAYOUT_1;
         lengths();
         unsound();
         worked();
         refusals();
         levels();
+        moves();
+        all_levels();
     }
     printf("%u passed, %u failed\n", passed, failed);
     return failed != 0;

@@ -1,4 +1,5 @@
-/* The pool alone, without the bank: two texts are kept in it. Lay out, take, write, give back, and give back once too often. */
+/* The pool alone, without the bank: two texts are kept in it. Lay out, take, write, give back, give back once too often, and move to the other
+   layout as an update of the firmware does. */
 #include <stdio.h>
 #include <string.h>
 
@@ -16,6 +17,7 @@ static const char *in_words(uint32_t refusal) {
     case POOL_NOT_HELD: return "no held payload starts there";
     case POOL_LIST_LENGTH: return "the list has the wrong length";
     case POOL_NO_LAYOUT: return "no layout has this number";
+    case POOL_OTHER_LAYOUT: return "the pool has the other layout";
     default: return "no answer of this pool";
     }
 }
@@ -51,6 +53,12 @@ int main(void) {
     say("give the great back again", pool_give_back(pool, sizeof pool, great));
     printf("the swell has: %s\n", (char *)pool + swell);
     say("take 2,000 bytes", pool_take(pool, sizeof pool, 2000));
+
+    say("move from layout 1 to layout 2", pool_convert(pool, sizeof pool, POOL_LAYOUT_1));
+    say("move from layout 1 once more", pool_convert(pool, sizeof pool, POOL_LAYOUT_1));
+    say("ask about the swell", pool_ask(pool, sizeof pool, swell));
+    printf("the swell has: %s\n", (char *)pool + swell);
+    say("move back from layout 2", pool_convert(pool, sizeof pool, POOL_LAYOUT_2));
 
     say("figures", pool_figures(pool, sizeof pool, figures, POOL_FIGURES));
     printf("held bytes %u, free word %u, largest grant %u\n", (unsigned)figures[POOL_HELD_BYTES], (unsigned)figures[POOL_FREE_WORD],

@@ -1,4 +1,5 @@
-"""The two example pools of docs/FORMAT.md: the same calls on each layout, made by probe, as hex and with each governed word named.
+"""The two example pools of docs/FORMAT.md: the same calls on each layout, made by probe, as hex and with each governed word named; and what
+differs where the second is moved to the first one's layout.
 
   python3 examples/format/page.py           writes what stands between the page's markers
   python3 examples/format/page.py --check   holds the page to it; the last line is `N passed, M failed`
@@ -26,10 +27,11 @@ FALSE, BLOCKS, LEVELS = 96, 168, 13
 HELD, BELOW_NOT_FREE = 1, 2
 
 
-def made(layout, fill):
-    """The pool's bytes after the calls, over a buffer of one byte."""
-    commands = [main.image_command(bytes([fill]) * LENGTH), b"L" if layout == 1 else b"M" + layout.to_bytes(4, "little")]
-    commands += [letter.encode() + number.to_bytes(4, "little") for letter, number in CALLS]
+def made(layout, fill, *moves):
+    """The pool's bytes after the calls, over a buffer of one byte, and after the moves, each from a layout to the other one."""
+    calls = [("M", layout), *CALLS, *(("Y", old) for old in moves)]
+    commands = [main.image_command(bytes([fill]) * LENGTH)]
+    commands += [letter.encode() + number.to_bytes(4, "little") for letter, number in calls]
     lines = main.ask_probe(commands + [b"N", b"D"])
     refused = [line for line in lines if line.split()[1] != "0"]
     if refused:
@@ -180,11 +182,31 @@ def together(first, last):
     return first.replace("small bin ", "small bins ").replace("level ", "levels ")
 
 
-def section(layout):
+def pool_section(layout):
     data = made(layout, FILL)
     words = Reader(data).words
     out = [*hex_lines(data), "", "| Offset | Bytes | Hex | Value | What it is |", "|---:|---:|---|---|---|", *rows(data, words)]
     return "\n".join(out)
+
+
+def left_words():
+    """The words of the pool of layout 2 that differ from the pool of layout 1 after a move to layout 1; and whether they are all that differs."""
+    data, moved = made(1, FILL), made(2, FILL, 2)
+    left = [word for word in Reader(made(2, FILL)).words if data[word[0]:word[0] + word[1]] != moved[word[0]:word[0] + word[1]]]
+    known = {at for start, width, _ in left for at in range(start, start + width)}
+    return left, all(data[at] == moved[at] or at in known for at in range(LENGTH))
+
+
+def left_section():
+    data, moved = made(1, FILL), made(2, FILL, 2)
+    out = ["| Offset | The first pool | The second, moved | What it was in layout 2 |", "|---:|---|---|---|"]
+    out += [f"| {start} | `{data[start:start + width].hex(' ')}` | `{moved[start:start + width].hex(' ')}` | {what} |"
+            for start, width, what in left_words()[0]]
+    return "\n".join(out)
+
+
+# What the page shows, by the name in its markers.
+SECTIONS = {"layout 1": lambda: pool_section(1), "layout 2": lambda: pool_section(2), "moved": left_section}
 
 
 def governed(layout):
@@ -195,34 +217,43 @@ def governed(layout):
     return same, named
 
 
-def markers(layout):
-    return f"<!-- layout {layout}: begin -->", f"<!-- layout {layout}: end -->"
+def markers(name):
+    return f"<!-- {name}: begin -->", f"<!-- {name}: end -->"
 
 
-def between(text, layout):
-    begin, end = markers(layout)
+def between(text, name):
+    begin, end = markers(name)
     return text.split(begin)[1].split(end)[0].strip("\n")
+
+
+def asked(text):
+    """What is asked of the page and of probe, and whether it holds."""
+    for name, section in SECTIONS.items():
+        yield between(text, name) == section(), f"{name}: what stands there is what probe makes: else run examples/format/page.py"
+    for layout in (1, 2):
+        same, named = governed(layout)
+        yield sorted(named) == sorted(same), f"each governed byte of layout {layout} is named once, and no other"
+    yield made(1, FILL, 1) == made(2, FILL), "the first pool, moved to layout 2, is the second one"
+    yield left_words()[1], "the second pool, moved to layout 1, is the first one but for the words that are shown"
+    yield made(2, FILL, 2, 1) == made(2, FILL), "the second pool, there and back, is the same"
+    yield made(1, FILL, 1, 2) == made(2, FILL, 2), "the first pool, there and back, is the second one moved to layout 1"
 
 
 def check(text):
     good = bad = 0
-    for layout in (1, 2):
-        same, named = governed(layout)
-        asked = [(between(text, layout) == section(layout), f"the pool of layout {layout} is what probe makes: else run examples/format/page.py"),
-                 (sorted(named) == sorted(same), f"each governed byte of layout {layout} is named once, and no other")]
-        for holds, what in asked:
-            good, bad = good + holds, bad + (not holds)
-            if not holds:
-                print(f"failed: docs/FORMAT.md: {what}")
+    for holds, what in asked(text):
+        good, bad = good + holds, bad + (not holds)
+        if not holds:
+            print(f"failed: docs/FORMAT.md: {what}")
     print(f"{good} passed, {bad} failed")
     return bad == 0
 
 
 def write(text):
-    for layout in (1, 2):
-        begin, end = markers(layout)
+    for name, section in SECTIONS.items():
+        begin, end = markers(name)
         before, after = text.split(begin)[0], text.split(end)[1]
-        text = f"{before}{begin}\n\n{section(layout)}\n\n{end}{after}"
+        text = f"{before}{begin}\n\n{section()}\n\n{end}{after}"
     with open(PAGE, "w") as file:
         file.write(text)
 

@@ -12,7 +12,8 @@
 //! # Ok::<(), Refusal>(())
 //! ```
 //!
-//! A pool has one of two layouts, and every call serves both with the same answers: [`Layout`] says which one to lay out.
+//! A pool has one of two layouts, and every call serves both with the same answers: [`Layout`] says which one to lay out, and
+//! [`Pool::convert`] moves a pool from one to the other.
 //! Above the pool stands [`Bank`], a bank of 32 pistons, each empty or naming one [`Record`] of the pool.
 //!
 //! Every call reads the pool's bytes first, and a refusal changes none of them. What each answers is proved of the library
@@ -150,6 +151,31 @@ impl<'a> Pool<'a> {
         let size = answer(result, &[Refusal::NotAllowed, Refusal::NotSound, Refusal::NotHeld])?;
         within(self.bytes.len(), offset, size, result)?;
         Ok(size)
+    }
+
+    /// Moves the pool from the layout `old` to the other one, in the same buffer. Blocks, held payloads and the order of every list stay, so
+    /// every offset means what it meant, a [`Bank`]'s too.
+    /// Refused: [`OtherLayout`](Refusal::OtherLayout), and then the pool has the other layout already.
+    ///
+    /// ```
+    /// # use icewimple_pool::{Layout, Pool, Refusal};
+    /// # let mut buffer = [0; 1024];
+    /// # let mut pool = Pool::lay_out(&mut buffer, Layout::One)?;
+    /// // whichever it had, it has layout 2 afterwards
+    /// match pool.convert(Layout::One) {
+    ///     Ok(()) | Err(Refusal::OtherLayout) => {}
+    ///     Err(refusal) => return Err(refusal),
+    /// }
+    /// # assert_eq!(pool.convert(Layout::Two), Ok(()));
+    /// # Ok::<(), Refusal>(())
+    /// ```
+    ///
+    /// Moved back, a pool that began in layout 2 has all its bytes again. One that began in layout 1 differs at most in words that layout 1
+    /// leaves unused (`docs/FORMAT.md`).
+    pub fn convert(&mut self, old: Layout) -> Result<(), Refusal> {
+        let result = raw::convert(self.bytes, old.number());
+        let n = answer(result, &[Refusal::NotAllowed, Refusal::NotSound, Refusal::OtherLayout])?;
+        same_length(n, self.bytes.len(), result)
     }
 
     /// The payload at `offset`, for reading.

@@ -24,6 +24,8 @@ pub enum Refusal {
     /// 12: the bank names an offset that is not held, or one offset twice; or the recalled record does not read. [`Bank`](crate::Bank) says
     /// what to do.
     NotNamed,
+    /// 13: the pool has not the layout that was named as its old one. It is sound, so it has the other one.
+    OtherLayout,
     /// The library answered what its contract rules out, so it is not the proved one. The answer as it came.
     Unforeseen(u64),
 }
@@ -41,6 +43,7 @@ impl Refusal {
             Refusal::NoPiston => Some(10),
             Refusal::NoRecord => Some(11),
             Refusal::NotNamed => Some(12),
+            Refusal::OtherLayout => Some(13),
             Refusal::Unforeseen(_) => None,
         }
     }
@@ -61,6 +64,9 @@ impl fmt::Display for Refusal {
             Refusal::NoRecord => write!(f, "the kind is unknown, or its body has another length"),
             Refusal::NotNamed => {
                 write!(f, "the bank names an offset that is not held, or one twice, or no record")
+            }
+            Refusal::OtherLayout => {
+                write!(f, "the pool has not the layout that was named as its old one")
             }
             Refusal::Unforeseen(result) => {
                 write!(f, "the library answered {result:#x}, which its contract rules out")
@@ -109,7 +115,9 @@ mod tests {
 
     #[test]
     fn any_other_answer_is_unforeseen() {
-        for result in [2 << 32, 6 << 32, 7 << 32, 12 << 32, 1 << 63, (5 << 32) + 1, u64::MAX] {
+        for result in
+            [2 << 32, 6 << 32, 7 << 32, 12 << 32, 13 << 32, 1 << 63, (5 << 32) + 1, u64::MAX]
+        {
             assert_eq!(answer(result, &MAY), Err(Refusal::Unforeseen(result)));
         }
     }
@@ -134,12 +142,17 @@ mod tests {
             Refusal::NoPiston,
             Refusal::NoRecord,
             Refusal::NotNamed,
+            Refusal::OtherLayout,
         ]
         .map(|r| r.number());
-        assert_eq!(numbers, [1, 2, 3, 4, 5, 8, 10, 11, 12].map(Some));
+        assert_eq!(numbers, [1, 2, 3, 4, 5, 8, 10, 11, 12, 13].map(Some));
         assert_eq!(Refusal::Unforeseen(7 << 32).number(), None);
         assert_eq!(Refusal::NotHeld.to_string(), "the offset is not the start of a held payload");
         assert_eq!(Refusal::NoLayout.to_string(), "the layout's number is neither 1 nor 2");
+        assert_eq!(
+            Refusal::OtherLayout.to_string(),
+            "the pool has not the layout that was named as its old one"
+        );
         assert_eq!(
             Refusal::Unforeseen(16).to_string(),
             "the library answered 0x10, which its contract rules out"

@@ -1,4 +1,7 @@
 //! The piston bank over the proved library: settings, every refusal, and a long random run held against a plain list.
+mod common;
+
+use common::Numbers;
 use icewimple_pool::{Bank, Layout, Pool, Record, Refusal, PISTONS};
 
 /// A record of each kind in turn, told apart by its bytes.
@@ -152,18 +155,6 @@ fn a_record_that_does_not_read() {
     }
     bank.set(&mut pool, 0, &record(3)).unwrap();
     assert_eq!(bank.recall(&pool, 0), Ok(Some(record(3))));
-}
-
-/// Numbers that look random, the same in every run.
-struct Numbers(u64);
-
-impl Numbers {
-    fn below(&mut self, n: usize) -> usize {
-        self.0 ^= self.0 << 13;
-        self.0 ^= self.0 >> 7;
-        self.0 ^= self.0 << 17;
-        (self.0 % n as u64) as usize
-    }
 }
 
 /// Sets and clears as they come, beside somebody else who takes, writes and gives back: each piston shows its latest accepted setting.

@@ -1,4 +1,7 @@
 //! The wrapper over the proved library: the paper's worked tape, every refusal, and a long random run held against a plain list.
+mod common;
+
+use common::Numbers;
 use icewimple_pool::{Figures, Layout, Pool, Refusal, CLASSES};
 
 /// The least class whose size is at least the payload.
@@ -161,18 +164,6 @@ fn what_is_written_stays_while_it_is_held() {
     let pool = Pool::open(bytes).unwrap();
     assert!(pool.lend(a).unwrap().iter().all(|byte| *byte == 0xAA));
     assert!(pool.lend(b).unwrap().iter().all(|byte| *byte == 0xBB));
-}
-
-/// Numbers that look random, the same in every run.
-struct Numbers(u64);
-
-impl Numbers {
-    fn below(&mut self, n: usize) -> usize {
-        self.0 ^= self.0 << 13;
-        self.0 ^= self.0 >> 7;
-        self.0 ^= self.0 << 17;
-        (self.0 % n as u64) as usize
-    }
 }
 
 /// Takes and give-backs as they come; each payload keeps the byte that its holder wrote, and the figures are those of the list:

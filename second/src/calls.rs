@@ -33,6 +33,17 @@ pub fn lay_out(pool: &mut Vec<u8>, number: u32) -> Answer {
     Ok(pool.len())
 }
 
+/// From the layout with this number to the other one. The number is tested before the pool is read.
+pub fn convert(pool: &mut Vec<u8>, old: u32) -> Answer {
+    if !allowed(pool.len()) {
+        return Err(Refusal::NotAllowed);
+    }
+    let old = Layout::of_number(old).ok_or(Refusal::NoLayout)?;
+    let after = rules::convert(&state_of(pool)?, old)?;
+    *pool = layout::write(&after, pool);
+    Ok(pool.len())
+}
+
 pub fn inspect(pool: &[u8]) -> Answer {
     state_of(pool).map(|state| state.n)
 }

@@ -1,6 +1,7 @@
 //! Fixed cases: the worked tape, both sides of the edge, what is easy to get wrong, unreadable
 //! records and the probe's own edges. Lines worked out by hand stand beside their case.
 
+use crate::conversion;
 use crate::layout::{self, distance, put4, NEXT, PREVIOUS, SMALL_NEXT};
 use crate::levels;
 use crate::script::Script;
@@ -19,6 +20,18 @@ pub struct ProbeCase {
     pub input: Vec<u8>,
     pub lines: Option<String>,
 }
+
+/// A random case for the probe, whose calls were held to laws as it was made.
+pub struct LawCase {
+    pub name: String,
+    pub input: Vec<u8>,
+    /// Laws that this program itself broke.
+    pub faults: Vec<String>,
+}
+
+/// Name, number of cases, and what makes the numbered case of a seed and counts the branches that it
+/// takes.
+pub type Group<Counts> = (&'static str, u64, fn(u64, u64, &mut Counts) -> LawCase);
 
 pub const WORKED_TAPE: &str =
     "L 1024, T 10, T 100, T 61, T 200, G 172, T 32, T 72, G 172, G 276, T 100, G 556, S";
@@ -320,6 +333,7 @@ pub fn probe_cases() -> Vec<ProbeCase> {
     cases.extend(ring_cases());
     cases.extend(forged_cases());
     cases.extend(levels::probe_cases());
+    cases.extend(conversion::fixed::cases());
     cases
 }
 
@@ -470,14 +484,13 @@ pub fn probe_edges() -> Vec<ProbeCase> {
         |name: String, input: Vec<u8>, lines: Option<String>| ProbeCase { name, input, lines };
     let stop = |done: &str| Some(format!("{}X 7 0\n", done));
     let mut cases = vec![case("no input".to_string(), Vec::new(), Some(String::new()))];
-    for letter in [0, 10, 32, b'0', b'b', b'X', b'Z', b'd', b'i', b'l', b'n', b's', 255] {
+    for letter in [0, 10, 32, b'0', b'b', b'X', b'Z', b'd', b'y', b'i', b'l', b'n', b's', 255] {
         cases.push(case(format!("letter {}", letter), vec![letter, b'D'], stop("")));
         let after = vec![b'D', letter, b'D'];
         cases.push(case(format!("D, letter {}", letter), after, stop("D 0 0 -\n")));
     }
-    for (letter, body) in
-        [(b'I', 10), (b'T', 4), (b'G', 4), (b'A', 4), (b'P', 4), (b'W', 14), (b'C', 4), (b'M', 4)]
-    {
+    let numbers = b"TGAPCMY".iter().map(|letter| (*letter, 4));
+    for (letter, body) in numbers.chain([(b'I', 10), (b'W', 14)]) {
         for length in 0..body {
             let input = short_body(letter, length);
             let name = format!("{} with {} bytes of body", letter as char, length);
@@ -530,6 +543,8 @@ fn every_call(script: &mut Script) {
         .plain(b'L')
         .number(b'M', 2)
         .number(b'M', 9)
+        .number(b'Y', 1)
+        .number(b'Y', 9)
         .plain(b'N')
         .number(b'T', 8)
         .number(b'T', 0)
@@ -541,8 +556,8 @@ fn every_call(script: &mut Script) {
 fn every_call_refused() -> String {
     let sevens = |k: usize| " 7".repeat(k);
     format!(
-        "L 1 0\nM 1 0\nM 1 0\nN 1 0\nT 1 0\nT 1 0\nG 1 0\nA 1 0\nP 1 0 0 -\nW 1 0 0\nW 1 0 0\nS 1 0\n\
-         C 1 0{}\nC 1 0\nC 1 0{}\nD 0 0 -\n",
+        "L 1 0\nM 1 0\nM 1 0\nY 1 0\nY 1 0\nN 1 0\nT 1 0\nT 1 0\nG 1 0\nA 1 0\nP 1 0 0 -\n\
+         W 1 0 0\nW 1 0 0\nS 1 0\nC 1 0{}\nC 1 0\nC 1 0{}\nD 0 0 -\n",
         sevens(53),
         sevens(64)
     )

@@ -2,8 +2,9 @@
 
 use crate::banks;
 use crate::branches::{self, Counts, Outcome, Taken};
-use crate::cases;
+use crate::cases::{self, Group};
 use crate::child::{self, Fault};
+use crate::conversion;
 use crate::damage;
 use crate::images;
 use crate::random::Random;
@@ -58,6 +59,7 @@ pub fn run(options: Options) -> bool {
     compare.branches(&by_tapes, &by_images);
     compare.damaged_images();
     compare.edges();
+    compare.conversions();
     if !compare.options.pool_only {
         compare.banks();
     }
@@ -225,6 +227,15 @@ impl Compare {
         self.report.end();
     }
 
+    fn conversions(&mut self) {
+        let mut counts = conversion::Counts::new();
+        for group in conversion::GROUPS {
+            self.group(group, &mut counts);
+        }
+        print_table(CONVERSIONS, &counts.table());
+        self.all_taken("branches of the conversion taken", &counts.table());
+    }
+
     fn banks(&mut self) {
         self.report.begin("fixed banks");
         for case in banks::fixed::cases().into_iter().chain(banks::fixed::edges()) {
@@ -233,18 +244,22 @@ impl Compare {
         self.report.end();
         let mut counts = banks::Counts::new();
         for group in banks::GROUPS {
-            self.bank_group(group, &mut counts);
+            self.group(group, &mut counts);
         }
-        print_bank_branches(&counts);
-        self.report.begin("branches of the bank taken");
-        for (name, count) in counts.table() {
-            self.report.check(count > 0, &format!("never taken: {}", name));
+        print_table(BANKS, &counts.table());
+        self.all_taken("branches of the bank taken", &counts.table());
+    }
+
+    fn all_taken(&mut self, group: &str, table: &[(String, u64)]) {
+        self.report.begin(group);
+        for (name, count) in table {
+            self.report.check(*count > 0, &format!("never taken: {}", name));
         }
         self.report.end();
     }
 
     /// A law that this program broke is a failure even where the other program breaks it too.
-    fn bank_group(&mut self, (name, count, make): banks::Group, counts: &mut banks::Counts) {
+    fn group<Counts>(&mut self, (name, count, make): Group<Counts>, counts: &mut Counts) {
         let seed = self.options.seed;
         let mut faults = Vec::new();
         self.report.begin(name);
@@ -258,9 +273,12 @@ impl Compare {
     }
 }
 
-fn print_bank_branches(counts: &banks::Counts) {
-    println!("branches of the bank, on pools with every byte compared:");
-    for (name, count) in counts.table() {
+const CONVERSIONS: &str = "branches of the conversion, with every byte compared:";
+const BANKS: &str = "branches of the bank, on pools with every byte compared:";
+
+fn print_table(title: &str, table: &[(String, u64)]) {
+    println!("{}", title);
+    for (name, count) in table {
         println!("{:>8}  {}", count, name);
     }
 }
@@ -289,11 +307,18 @@ pub fn count(seed: u64) {
     (0..TALL).for_each(|number| drop(tall_case(seed, number, &mut by_images)));
     (0..RUNS).for_each(|number| drop(run_case(seed, number, &mut by_images)));
     print_branches(&by_tapes, &by_images);
+    let mut counts = conversion::Counts::new();
+    make_all(seed, conversion::GROUPS, &mut counts);
+    print_table(CONVERSIONS, &counts.table());
     let mut counts = banks::Counts::new();
-    for (_, count, make) in banks::GROUPS {
-        (0..count).for_each(|number| drop(make(seed, number, &mut counts)));
+    make_all(seed, banks::GROUPS, &mut counts);
+    print_table(BANKS, &counts.table());
+}
+
+fn make_all<Counts, const N: usize>(seed: u64, groups: [Group<Counts>; N], counts: &mut Counts) {
+    for (_, count, make) in groups {
+        (0..count).for_each(|number| drop(make(seed, number, counts)));
     }
-    print_bank_branches(&counts);
 }
 
 /// How many damaged images of each sort this program finds sound; some rightly are.
@@ -474,7 +499,8 @@ fn damaged_case(seed: u64, number: u64) -> Case {
     let mut script = Script::new();
     script.image(&damaged.bytes).plain(b'N').number(b'T', 8).number(b'G', offset).plain(b'S');
     script.number(b'T', 72).number(b'A', offset).number(b'P', offset);
-    script.write_part(offset, &[1, 2, 3, 4]).number(b'C', 53).number(b'C', 52).plain(b'D');
+    script.write_part(offset, &[1, 2, 3, 4]).number(b'C', 53).number(b'C', 52);
+    script.number(b'Y', 1).number(b'Y', 2).plain(b'D');
     let name = format!("seed {}, damaged image {} ({})", seed, number, damaged.sort);
     Case { name, input: script.input }
 }

@@ -82,8 +82,8 @@ fn put_together(random: &mut Random, n: usize) -> State {
     state
 }
 
-/// Free blocks of many sizes, whose bins reach many levels, with held ones between them.
-fn many_bins(random: &mut Random, n: usize) -> State {
+/// Free blocks of many sizes, whose bins reach many levels, with held ones between them; of layout 1.
+pub fn many_bins(random: &mut Random, n: usize) -> State {
     let room = n - LOW_RUN - LEAST_REMAINDER;
     let count = random.between(2, 60);
     let held = *random.pick(&[72, 80, 128]);

@@ -13,9 +13,10 @@ use crate::tape::Request;
 type Words = (&'static str, u32, &'static str, &'static [(usize, &'static [i32])]);
 
 /// The false block's lowest index word; the word of level j stands 4 (j - 1) bytes before.
-const FALSE: usize = 160;
+pub const FALSE: usize = 160;
 
-const STEPS: &str = "T 68, T 68, T 76, T 68, T 92, T 68, T 124, T 68, G 172, G 316, G 468, G 636";
+pub const STEPS: &str =
+    "T 68, T 68, T 76, T 68, T 92, T 68, T 124, T 68, G 172, G 316, G 468, G 636";
 
 const BY_HAND: [Words; 8] = [
     (
@@ -138,9 +139,8 @@ const BY_HAND: [Words; 8] = [
     ),
 ];
 
-/// The pool that requests make of a buffer of zeros, laid out with the layout.
-fn pool_after(n: u32, layout: u32, requests: &str) -> Vec<u8> {
-    let mut pool = vec![0; n as usize];
+/// The pool that requests make of a buffer, laid out with the layout.
+pub fn pool_after(mut pool: Vec<u8>, layout: u32, requests: &str) -> Vec<u8> {
     calls::lay_out(&mut pool, layout).expect("the length is allowed");
     let tape = if requests.is_empty() { Vec::new() } else { cases::tape_of(requests) };
     let mut rest = &tape[..];
@@ -158,19 +158,23 @@ fn pool_after(n: u32, layout: u32, requests: &str) -> Vec<u8> {
 
 /// Each case, and the first of its words that is not as it was worked out.
 pub fn words_by_hand() -> Vec<(&'static str, Option<String>)> {
-    let wrong = |pool: &[u8], words: &[(usize, &[i32])]| {
-        let each = |(first, values): &(usize, &[i32])| {
-            let first = *first;
-            let at = move |(place, value): (usize, &i32)| (first - 4 * place, *value);
-            values.iter().enumerate().map(at).collect::<Vec<(usize, i32)>>()
-        };
-        let all: Vec<(usize, i32)> = words.iter().flat_map(each).collect();
-        let wrong = all.into_iter().find(|(at, value)| get4(pool, *at) as i32 != *value);
-        wrong.map(|(at, value)| format!("the word at {} is not {}", at, value))
+    let case = |(name, n, requests, words): &Words| {
+        let pool = pool_after(vec![0; *n as usize], 2, requests);
+        (*name, wrong_word(&pool, words))
     };
-    let case =
-        |(name, n, requests, words): &Words| (*name, wrong(&pool_after(*n, 2, requests), words));
     BY_HAND.iter().map(case).collect()
+}
+
+/// The first of these words that is not as it was worked out.
+pub fn wrong_word(pool: &[u8], words: &[(usize, &[i32])]) -> Option<String> {
+    let each = |(first, values): &(usize, &[i32])| {
+        let first = *first;
+        let at = move |(place, value): (usize, &i32)| (first - 4 * place, *value);
+        values.iter().enumerate().map(at).collect::<Vec<(usize, i32)>>()
+    };
+    let all: Vec<(usize, i32)> = words.iter().flat_map(each).collect();
+    let wrong = all.into_iter().find(|(at, value)| get4(pool, *at) as i32 != *value);
+    wrong.map(|(at, value)| format!("the word at {} is not {}", at, value))
 }
 
 pub fn probe_cases() -> Vec<ProbeCase> {
@@ -271,12 +275,12 @@ fn verdicts() -> Vec<ProbeCase> {
     let line = |sound: bool| if sound { "N 0 1024" } else { "N 2 0" };
     let mut cases = Vec::new();
     for (name, changes, sound) in OF_TWO {
-        let mut pool = pool_after(1024, 2, STEPS);
+        let mut pool = pool_after(vec![0; 1024], 2, STEPS);
         changes.iter().for_each(|(at, value)| put4(&mut pool, *at, *value));
         cases.push(verdict_case(&format!("layout 2, {}", name), &pool, line(sound)));
     }
     for (name, requests, sound) in OF_ONE {
-        let mut pool = pool_after(1024, 1, requests);
+        let mut pool = pool_after(vec![0; 1024], 1, requests);
         cases.push(verdict_case(&format!("layout 1, {}", name), &pool, line(true)));
         put4(&mut pool, 108, 13);
         let name = format!("layout 1 with level word 13, {}", name);

@@ -27,6 +27,7 @@ mod calls;
 mod cases;
 mod child;
 mod compare;
+mod conversion;
 mod damage;
 mod images;
 mod layout;

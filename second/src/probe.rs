@@ -17,6 +17,8 @@ pub enum Command<'a> {
     LayOut,
     /// By the layout's number.
     LayOutAs(u32),
+    /// By the old layout's number.
+    Convert(u32),
     Inspect,
     Take(u32),
     GiveBack(u32),
@@ -86,6 +88,7 @@ impl<'a> Reader<'a> {
             }
             b'L' => Command::LayOut,
             b'M' => Command::LayOutAs(self.number()?),
+            b'Y' => Command::Convert(self.number()?),
             b'N' => Command::Inspect,
             b'T' => Command::Take(self.number()?),
             b'G' => Command::GiveBack(self.number()?),
@@ -193,6 +196,7 @@ impl Bench {
             }
             Command::LayOut => answer_line('L', calls::lay_out(pool, Layout::One.number())),
             Command::LayOutAs(number) => answer_line('M', calls::lay_out(pool, number)),
+            Command::Convert(old) => answer_line('Y', calls::convert(pool, old)),
             Command::Inspect => answer_line('N', calls::inspect(pool)),
             Command::Take(s) => answer_line('T', calls::take(pool, s)),
             Command::GiveBack(offset) => answer_line('G', calls::give_back(pool, offset)),

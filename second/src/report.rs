@@ -22,6 +22,15 @@ impl Program {
     }
 }
 
+/// A law that holds, or what it says where it does not.
+pub fn demand(holds: bool, what: &str) -> Result<(), String> {
+    if holds {
+        Ok(())
+    } else {
+        Err(what.to_string())
+    }
+}
+
 /// Differences shown whole for a group; the others are only counted.
 const SHOWN: u64 = 20;
 

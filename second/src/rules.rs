@@ -1,7 +1,7 @@
 //! How the state answers: the rules of granting, coming back, asking and counting.
 //! Each rule works on a copy, so that a refusal cannot leave half a change behind.
 
-use crate::state::{Bins, Block, State, GREATEST_SMALL, LEAST_LARGE, LEAST_REMAINDER};
+use crate::state::{Bins, Block, Layout, State, GREATEST_SMALL, LEAST_LARGE, LEAST_REMAINDER};
 
 #[derive(Clone, Copy, Debug, PartialEq, Eq)]
 pub enum Refusal {
@@ -13,10 +13,11 @@ pub enum Refusal {
     ListLength = 6,
     Unreadable = 7,
     NoLayout = 8,
-    /// From here on the piston bank's own.
+    /// The next three are the piston bank's own.
     NoPiston = 10,
     NotARecord = 11,
     WrongBank = 12,
+    OtherLayout = 13,
 }
 
 impl Refusal {
@@ -153,6 +154,15 @@ fn index_of(run: &[Block], start: usize) -> usize {
 fn block_mut(run: &mut [Block], start: usize) -> &mut Block {
     let index = index_of(run, start);
     &mut run[index]
+}
+
+/// The state after the move to the other layout (request 2026-05). Blocks and the order of every
+/// bin are no matter of the layout, so nothing else is to be done.
+pub fn convert(state: &State, old: Layout) -> Result<State, Refusal> {
+    if state.layout != old {
+        return Err(Refusal::OtherLayout);
+    }
+    Ok(State { layout: old.other(), ..state.clone() })
 }
 
 /// The held block whose payload starts at the offset.

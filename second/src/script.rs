@@ -26,7 +26,7 @@ impl Script {
         self
     }
 
-    /// A command with one number: M, T, G, A, P, C, Q or R.
+    /// A command with one number: M, Y, T, G, A, P, C, Q or R.
     pub fn number(&mut self, letter: u8, number: u32) -> &mut Script {
         self.input.push(letter);
         self.input.extend_from_slice(&number.to_le_bytes());
@@ -99,6 +99,7 @@ fn in_words(command: &Command) -> String {
         Command::Classes(k) => format!("C {}", k),
         Command::LayOut => "L".to_string(),
         Command::LayOutAs(number) => format!("M {}", number),
+        Command::Convert(old) => format!("Y {}", old),
         Command::Inspect => "N".to_string(),
         Command::Figures => "S".to_string(),
         Command::Dump => "D".to_string(),

@@ -3,7 +3,8 @@
 
 use crate::banks;
 use crate::branches::Counts;
-use crate::cases;
+use crate::cases::{self, Group};
+use crate::conversion;
 use crate::damage;
 use crate::images;
 use crate::layout::{self, get4, get8};
@@ -30,7 +31,10 @@ pub fn run(seed: u64, keep: &Path) -> bool {
     layouts_alike(&mut report, seed);
     sound_images(&mut report, seed);
     damaged_images(&mut report, seed);
-    bank_laws(&mut report, seed);
+    let mut counts = conversion::Counts::new();
+    laws(&mut report, seed, "laws of the conversion", conversion::GROUPS, &mut counts);
+    let mut counts = banks::Counts::new();
+    laws(&mut report, seed, "laws of the bank", banks::GROUPS, &mut counts);
     report.close()
 }
 
@@ -109,6 +113,9 @@ fn index_words(report: &mut Report) {
     }
     let top = [32_768, 65_536].map(|size| Layout::Two.height(size));
     report.check(top == [13, 13], "no bin is higher than 13");
+    for (name, wrong) in conversion::fixed::words_by_hand() {
+        report.check(wrong.is_none(), &format!("{}: {:?}", name, wrong));
+    }
     report.end();
 }
 
@@ -253,7 +260,8 @@ fn sound_images(report: &mut Report, seed: u64) {
     }
     for (number, state) in states.iter().enumerate() {
         let old = random.bytes(state.n);
-        let holds = step_holds(state, &old);
+        let holds = step_holds(state, &old)
+            .and_then(|_| conversion::there_and_back(&layout::write(state, &old)));
         report.check(holds.is_ok(), &format!("seed {}, image {}: {:?}", seed, number, holds));
     }
     report.end();
@@ -275,14 +283,18 @@ fn damaged_images(report: &mut Report, seed: u64) {
     report.end();
 }
 
-/// The bank's cases of the comparison, for their calls' own sake: each was held to the bank's laws
-/// as the case was made.
-fn bank_laws(report: &mut Report, seed: u64) {
-    report.begin("laws of the bank");
-    let mut counts = banks::Counts::new();
-    for (_, count, make) in banks::GROUPS {
+/// Cases of the comparison, for their calls' own sake: each was held to its laws as it was made.
+fn laws<Counts, const N: usize>(
+    report: &mut Report,
+    seed: u64,
+    name: &str,
+    groups: [Group<Counts>; N],
+    counts: &mut Counts,
+) {
+    report.begin(name);
+    for (_, count, make) in groups {
         for number in 0..count {
-            let case = make(seed, number, &mut counts);
+            let case = make(seed, number, counts);
             let what = format!("{}: {:?}", case.name, case.faults.first());
             report.check(case.faults.is_empty(), &what);
         }

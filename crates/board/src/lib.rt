@@ -1,6 +1,6 @@
-// The public calls for C: crate pool's own, each of which answers one number of 64 bits, with the refusal's number in its upper
-// half and the value in its lower half. A slice is a pointer and a length in C (include/pool.h). None has a precondition, and
-// each contract is an equation with the pool's definition of the call. `pistons` has the piston bank's, with the bank's definitions.
+// The public calls for C: crate pool's own and `convert`, each of which answers one number of 64 bits, with the refusal's number in its
+// upper half and the value in its lower half. A slice is a pointer and a length in C (include/pool.h). None has a precondition, and
+// each contract is an equation with the call's own definition. `pistons` has the piston bank's, with the bank's definitions.
 mod fill;
 mod halves;
 mod pistons;
@@ -9,6 +9,7 @@ pub use pistons::bank_clear;
 pub use pistons::bank_recall;
 pub use pistons::bank_set;
 ghost use mathlib.Core.Path.{_≡_};
+ghost use Rattle.convert.specs.Converting as converting;
 ghost use Rattle.pool.specs.Calls as call;
 ghost use Rattle.board.specs.Heard as board;
 ghost use Rattle.board.specs.Heard.{halves, heard, left, leaves};
@@ -19,6 +20,14 @@ pub extern "C" fn pool_lay_out(pool: &mut [u8], layout: u32) -> u64
     ensures { λ r. ⌜ leaves (call.layOut (now (pool .entry)) layout) ≡ left (halves r) (now (pool .exit)) ⌝ }
 {
     halves::of(pool::lay_out(pool, layout))
+}
+
+// Moves the pool from the layout `old` to the other one; answers its length.
+#[no_mangle]
+pub extern "C" fn pool_convert(pool: &mut [u8], old: u32) -> u64
+    ensures { λ r. ⌜ leaves (converting.convert (now (pool .entry)) old) ≡ left (halves r) (now (pool .exit)) ⌝ }
+{
+    halves::of(convert::convert(pool, old))
 }
 
 // Whether the pool is sound; answers its length.

@@ -8,6 +8,9 @@ use paper::FALSE_BLOCK;
 use paper::LEVEL;
 use paper::LEVELS;
 
+// How many levels there are above level 1.
+pub const HIGHER: usize = LEVELS as usize - 1;
+
 // How high the pool's index is, which tells its layout: 13 where the false block's level word says so, else 1.
 pub fn top(pool: &[u8]) -> u32
     ensures { λ r. ⌜ r ≡ topOf (now (pool .entry)) ⌝ }

@@ -2,6 +2,7 @@
 // must be the one that each of its levels awaits, and then each awaits what the block's word of that level leads to. Level 1 awaits the block at
 // hand, so there is nothing to keep for it, and in layout 1 nothing at all.
 use header::link_ok;
+use levels::HIGHER;
 use paper::CHAIN;
 use paper::LEVEL;
 use paper::LEVELS;
@@ -10,9 +11,6 @@ ghost use Prim.Native.Nat.{_-_};
 ghost use Rattle.paper.specs.Layout.{levels};
 ghost use Rattle.lists.specs.Contract.{to-awaited};
 ghost use Rattle.lists.specs.Index.{climbed, ended, firstIndexed, indexed, nothing};
-
-// How many levels there are above level 1.
-pub const HIGHER: usize = LEVELS as usize - 1;
 
 // The first block f, of size z, of the bin after size y, in an index `top` high: its size, its level word and its index words.
 pub fn first_ok(pool: &[u8], waits: &mut [u32; HIGHER], top: u32, y: u32, z: u32, f: u32) -> bool

@@ -2,7 +2,7 @@
 mod index;
 
 use header::link_ok;
-use index::HIGHER;
+use levels::HIGHER;
 use paper::CHAIN;
 use paper::FALSE_BLOCK;
 use paper::LARGE;

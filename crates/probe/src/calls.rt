@@ -49,10 +49,11 @@ fn image(buffer: &mut [u8]) -> Next {
     goes_on(n, ended(output::line(b'I', Answer::Done(k))))
 }
 
-// M, T, G, A: a call with one number.
+// M, Y, T, G, A: a call with one number.
 fn with_number(pool: &mut [u8], letter: u8, v: u32) -> bool {
     match letter {
         b'M' => output::line(b'M', pool::lay_out(pool, v)),
+        b'Y' => output::line(b'Y', convert::convert(pool, v)),
         b'T' => output::line(b'T', pool::take(pool, v)),
         b'G' => output::line(b'G', pool::give_back(pool, v)),
         b'A' => output::line(b'A', pool::ask(pool, v)),
@@ -156,7 +157,7 @@ fn on_pool(pool: &mut [u8], body: &mut [u8], bank: &mut [u32; 32], letter: u8) -
         b'D' => ended(dump(pool)),
         b'C' => classes(pool),
         b'W' => write_part(pool, body),
-        b'M' | b'T' | b'G' | b'A' | b'P' => {
+        b'M' | b'Y' | b'T' | b'G' | b'A' | b'P' => {
             let Number::Of(v) = input::next_number() else {
                 return Outcome::Unreadable;
             };

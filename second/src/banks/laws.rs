@@ -7,6 +7,7 @@ use super::Call;
 use crate::bank::{self, PISTONS};
 use crate::calls;
 use crate::probe::Bench;
+use crate::report::demand;
 use crate::rules::{need, Refusal};
 use std::collections::BTreeMap;
 
@@ -17,14 +18,6 @@ fn payloads(pool: &[u8]) -> Result<Payloads, String> {
     let state = calls::state_of(pool).map_err(|_| "the pool is not sound".to_string())?;
     let each = |start: usize, end: usize| (start as u32 + 4, pool[start + 4..end].to_vec());
     Ok(state.held().map(|block| each(block.start, block.end())).collect())
-}
-
-fn demand(holds: bool, what: &str) -> Result<(), String> {
-    if holds {
-        Ok(())
-    } else {
-        Err(what.to_string())
-    }
 }
 
 /// Of one call, on any pool and bank.
@@ -89,6 +82,11 @@ impl Log {
             Call::Clear(piston) if refused.is_none() => self.settings[*piston as usize].clear(),
             _ => {}
         }
+        self.shown(after)
+    }
+
+    /// Each piston shows its latest accepted setting.
+    pub fn shown(&self, after: &Bench) -> Result<(), String> {
         for (piston, setting) in self.settings.iter().enumerate() {
             let shown = bank::recall(&after.pool, &after.bank, piston as u32);
             let same = shown.map_or(false, |part| after.pool[part] == setting[..]);

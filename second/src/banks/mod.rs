@@ -12,6 +12,7 @@ pub use branches::Counts;
 
 use crate::bank::{self, body_bytes, Bank, PISTONS};
 use crate::calls;
+use crate::cases::{Group, LawCase};
 use crate::images::EXTREMES;
 use crate::probe::{Bench, Command};
 use crate::random::Random;
@@ -44,22 +45,10 @@ impl Call {
     }
 }
 
-pub struct Case {
-    pub name: String,
-    pub input: Vec<u8>,
-    /// Laws that this program itself broke.
-    pub faults: Vec<String>,
-}
-
-/// Makes the numbered case of a seed, and counts the branches that it takes.
-pub type Make = fn(u64, u64, &mut Counts) -> Case;
-
-/// Name, number of cases, maker.
-pub type Group = (&'static str, u64, Make);
-
-pub const GROUPS: [Group; 7] = [
+pub const GROUPS: [Group<Counts>; 8] = [
     ("banks on fresh pools", 400, runs::fresh),
     ("banks beside other users", 300, runs::shared),
+    ("banks on pools that are moved", 120, runs::moved),
     ("wrong banks", 300, wrong::banks),
     ("banks with records that do not read", 200, wrong::records),
     ("banks on damaged images", 500, wrong::pools),
@@ -87,8 +76,8 @@ impl<'a> Maker<'a> {
         Maker { random, script, bench, counts, faults: Vec::new(), log: None }
     }
 
-    fn finish(self, name: String) -> Case {
-        Case { name, input: self.script.input, faults: self.faults }
+    fn finish(self, name: String) -> LawCase {
+        LawCase { name, input: self.script.input, faults: self.faults }
     }
 
     fn hold(&mut self, law: Result<(), String>, call: &Call) {
@@ -146,6 +135,15 @@ impl<'a> Maker<'a> {
             self.hold(law, &call);
         }
         refused
+    }
+
+    /// To the other layout, behind which the bank is the same.
+    fn convert(&mut self) {
+        let old = self.state().layout.number();
+        self.script.number(b'Y', old).plain(b'D').plain(b'V');
+        self.bench.serve(Command::Convert(old));
+        let law = self.log.as_ref().map_or(Ok(()), |log| log.shown(&self.bench));
+        self.faults.extend(law.err().map(|why| format!("Y {}: {}", old, why)));
     }
 
     /// What these pistons show, and all that are not empty.

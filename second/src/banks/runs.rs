@@ -3,17 +3,18 @@
 
 use super::laws::Log;
 use super::wrong::spoiled;
-use super::{named, some_record, Call, Case, Counts, Habits, Maker};
+use super::{named, some_record, Call, Counts, Habits, Maker};
 use crate::bank::{self, body_bytes, Bank, PISTONS};
 use crate::calls;
-use crate::images::random_image;
+use crate::cases::LawCase;
+use crate::images::{random_image, tall_size};
 use crate::random::Random;
 use crate::rules::{held_block, Refusal};
 use crate::state::{Block, State, GREATEST_POOL};
 use crate::tapes::edge_size;
 
 /// A bank of 32 records of kind 3 needs 1,280 bytes, so most of these pools run full.
-pub fn fresh(seed: u64, number: u64, counts: &mut Counts) -> Case {
+pub fn fresh(seed: u64, number: u64, counts: &mut Counts) -> LawCase {
     let mut random = Random::of_case(seed, 8, number);
     let top = *random.pick(&[26, 36, 60, 120, 200, 400]);
     let n = match number % 100 {
@@ -41,7 +42,7 @@ pub fn fresh(seed: u64, number: u64, counts: &mut Counts) -> Case {
     maker.finish(format!("seed {}, fresh pool {} of {} bytes", seed, number, n))
 }
 
-pub fn shared(seed: u64, number: u64, counts: &mut Counts) -> Case {
+pub fn shared(seed: u64, number: u64, counts: &mut Counts) -> LawCase {
     let mut random = Random::of_case(seed, 9, number);
     let top = *random.pick(&[60, 100, 160, 300]);
     let n = random.between(26, top) * 8;
@@ -60,6 +61,35 @@ pub fn shared(seed: u64, number: u64, counts: &mut Counts) -> Case {
     }
     maker.recall_all(&habits.pistons);
     maker.finish(format!("seed {}, shared pool {} of {} bytes", seed, number, n))
+}
+
+/// The pool is moved to the other layout and back, again and again, and no setting is lost. Others
+/// take and give back large blocks, so that there are bins to move.
+pub fn moved(seed: u64, number: u64, counts: &mut Counts) -> LawCase {
+    let mut random = Random::of_case(seed, 22, number);
+    let n = random.between(60, 300) * 8;
+    let habits = Habits::random(&mut random, 5);
+    let old = random.bytes(n);
+    let mut maker = Maker::new(random, counts);
+    maker.image(&old);
+    maker.lay_out();
+    maker.log = Some(Log::new());
+    for _ in 0..maker.random.between(15, 40) {
+        let state = maker.state();
+        match maker.random.below(10) {
+            0..=4 => {
+                maker.any_call(&habits);
+            }
+            5 | 6 => {
+                let block = tall_size(&mut maker.random, n / 6);
+                maker.take(block as u32 - 4);
+            }
+            7 => maker.with_payload(&state, false, Maker::give_back),
+            _ => maker.convert(),
+        }
+    }
+    maker.recall_all(&habits.pistons);
+    maker.finish(format!("seed {}, moved pool {} of {} bytes", seed, number, n))
 }
 
 /// A bank that names some of an image's held payloads; most of them get a kind.

@@ -2,9 +2,10 @@
 //! that the order of refusals shows.
 
 use super::runs::adopted;
-use super::{named, some_record, Call, Case, Counts, Habits, Maker};
+use super::{named, some_record, Call, Counts, Habits, Maker};
 use crate::bank::{Bank, PISTONS};
 use crate::calls;
+use crate::cases::LawCase;
 use crate::damage;
 use crate::images::{extreme_states, of_either_layout, random_image};
 use crate::layout;
@@ -91,7 +92,7 @@ fn everywhere(bank: &mut Bank, state: &State, random: &mut Random) {
 }
 
 /// One image, several wrong banks, several calls for each.
-pub fn banks(seed: u64, number: u64, counts: &mut Counts) -> Case {
+pub fn banks(seed: u64, number: u64, counts: &mut Counts) -> LawCase {
     let mut random = Random::of_case(seed, 10, number);
     let top = *random.pick(&[40, 100, 200]);
     let n = random.between(26, top) * 8;
@@ -119,7 +120,7 @@ pub fn banks(seed: u64, number: u64, counts: &mut Counts) -> Case {
 }
 
 /// Kinds at the edge of what their payloads have room for, recalled, set over and cleared.
-pub fn records(seed: u64, number: u64, counts: &mut Counts) -> Case {
+pub fn records(seed: u64, number: u64, counts: &mut Counts) -> LawCase {
     let mut random = Random::of_case(seed, 14, number);
     let n = random.between(40, 200) * 8;
     let mut state = of_either_layout(&mut random, n);
@@ -146,7 +147,7 @@ pub fn records(seed: u64, number: u64, counts: &mut Counts) -> Case {
 }
 
 /// A damaged image; the bank names what was held before the damage, or is wrong itself.
-pub fn pools(seed: u64, number: u64, counts: &mut Counts) -> Case {
+pub fn pools(seed: u64, number: u64, counts: &mut Counts) -> LawCase {
     let damaged = damage::damaged(seed, number);
     let mut random = Random::of_case(seed, 11, number);
     let (first, second) = (some_piston(&mut random), some_piston(&mut random));
@@ -175,7 +176,7 @@ pub fn pools(seed: u64, number: u64, counts: &mut Counts) -> Case {
 }
 
 /// Every refusal with every other: pool, piston, bank, record and room, each good and bad.
-pub fn order(seed: u64, number: u64, counts: &mut Counts) -> Case {
+pub fn order(seed: u64, number: u64, counts: &mut Counts) -> LawCase {
     let mut random = Random::of_case(seed, 12, number);
     let (bytes, offset) = with_a_record(&mut random);
     let n = bytes.len();
@@ -221,7 +222,7 @@ fn with_a_record(random: &mut Random) -> (Vec<u8>, u32) {
 }
 
 /// The greatest pools, at their limits.
-pub fn extreme(seed: u64, number: u64, counts: &mut Counts) -> Case {
+pub fn extreme(seed: u64, number: u64, counts: &mut Counts) -> LawCase {
     let mut random = Random::of_case(seed, 13, number);
     let state = extreme_states(&mut random).swap_remove(number as usize);
     let old = random.bytes(state.n);
