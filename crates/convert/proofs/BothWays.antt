@@ -145,15 +145,12 @@ module _ (s : State) where
 -- ---- bytes
 
 module _ (s : State) (bs : List ℕ) (S : Stands s bs) where
-  -- either way the pool stands for the state
+  -- on the way the pool stands for the same blocks and lists
   pub there-stands : (t : ℕ) → (t ≡ 1) ⊎ (t ≡ 13) → Stands (withTop t s) (there s t bs)
   there-stands t e = write-stands (withTop t s) (formed s (S .well-formed) t e) bs (S .ends)
 
   there-long : (t : ℕ) → length (there s t bs) ≡ length bs
   there-long t = length-write (sheet (withTop t s)) bs
-
-  pub back-stands : (t : ℕ) → Stands s (back s t bs)
-  back-stands t = write-stands s (S .well-formed) (there s t bs) (S .ends ∙ sym (there-long t))
 
   -- a byte that s governs is as it was
   pub governed-back : (t i v : ℕ) → i < length bs → sheet s (i / 4 * 4) ≡ some v → getD (back s t bs) i 0 ≡ getD bs i 0

@@ -8,7 +8,7 @@ use native.Mathlib.Omega.{arith}
 use lib.Count.{trailingZeros}
 use Rattle.words.specs.Choice.{by=, if=, if=-no, if=-yes}
 use Rattle.paper.specs.Bins.{count, first}
-use Rattle.paper.specs.Blocks.{Block, State, block, blocks, free, held, remainder}
+use Rattle.paper.specs.Blocks.{State, block, blocks, free, held}
 use Rattle.paper.specs.Governed.{height}
 use Rattle.paper.specs.Layout.{blocks-at}
 use Rattle.paper.specs.Sound.{WellFormed, freeAt}

@@ -4,7 +4,6 @@ use mathlib.Core.List.{List, _∷_}
 use mathlib.Core.Logic.{_⊎_, inl, inr}
 use mathlib.Core.Path.{_≡_, refl, sym, ap, _∙_, subst}
 use Prim.Native.Nat.{ℕ, zero, suc, _+_, _≤_}
-use native.Mathlib.Omega.{arith}
 use lib.ListN.{length}
 use Rattle.words.specs.Choice.{by=, if=, if=-no, if=-yes}
 use Rattle.words.specs.Words.{Bytes}
@@ -18,7 +17,6 @@ use Rattle.paper.proofs.reads.Stands.{Stands}
 use Rattle.paper.proofs.runs.HeldPlaces.{heldAt}
 use Rattle.paper.proofs.sheet.Written.{length-write}
 use Rattle.paper.proofs.sheet.WrittenBytes.{write-bytes}
-use Rattle.paper.specs.declared.Answer.{Answer}
 use Rattle.paper.specs.declared.Answer.the-variants.{Done}
 use Rattle.paper.specs.declared.Tally.the-variants.{Counted}
 use Rattle.paper.specs.Answers.{Out, list-length, number, out}
@@ -38,7 +36,6 @@ use Rattle.pool.proofs.Demand3.{accepted-is-honest, accepted-sound-pools}
 use Rattle.pool.proofs.Holding.{Held, HeldBy, by-held, held-by, payloadOf, read-is}
 use Rattle.pool.specs.Calls.{ask, classCount, figures, giveBack, inspect, take}
 use Rattle.reading.specs.Read.{read}
-use Rattle.reading.proofs.Readings.{reading-unique}
 use Rattle.convert.specs.Converting.{convert, other, refusal, relaid}
 use Rattle.convert.proofs.Outcomes.{Served, other-top, served}
 

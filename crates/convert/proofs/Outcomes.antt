@@ -61,11 +61,6 @@ module _ (bs : List ℕ) (old : ℕ) where
 
   -- ---- 13, or none
 
-  is-sound : (x : Reading) → asked x ≡ 0 → (s : State) × (x ≡ sound s)
-  is-sound misfit e = absurd (omega arith)
-  is-sound broken e = absurd (omega arith)
-  is-sound (sound s) e = (s, refl)
-
   by-layout : (x : Reading) → read bs ≡ x → asked x ≡ 0 → layoutTop old ≢ 0 → topOf bs ≢ layoutTop old → other-layout ≡ told x
   by-layout misfit r e z n = absurd (omega arith)
   by-layout broken r e z n = absurd (omega arith)

@@ -4,29 +4,28 @@
 use mathlib.Core.List.{List}
 use mathlib.Core.Logic.{_≢_, _⊎_, inl, inr}
 use mathlib.Core.Option.{some}
-use mathlib.Core.Path.{_≡_, refl, sym, ap, _∙_, subst}
+use mathlib.Core.Path.{_≡_, refl, sym, ap, _∙_}
 use Prim.Native.Nat.{ℕ, _<_, _%_, _*_, _/_}
 use native.Mathlib.Omega.{arith}
 use lib.ListN.{getD, length}
-use Rattle.words.specs.Choice.{by=, if=, if=-no, if=-yes}
+use Rattle.words.specs.Choice.{if=, if=-no, if=-yes}
 use Rattle.words.specs.Words.{Bytes}
-use Rattle.paper.proofs.reads.Standing.{sound-same, sound-stands, stands-sound}
+use Rattle.paper.proofs.reads.Standing.{sound-stands, stands-sound}
 use Rattle.paper.proofs.reads.Stands.{Stands}
 use Rattle.paper.proofs.sheet.Written.{length-write}
 use Rattle.paper.proofs.sheet.WrittenBytes.{write-bytes}
 use Rattle.paper.specs.declared.Answer.the-variants.{Done}
 use Rattle.paper.specs.Answers.{Out, out}
 use Rattle.paper.specs.Blocks.{State, withTop}
-use Rattle.paper.specs.Calls.{Reading, sound}
+use Rattle.paper.specs.Calls.{Reading}
 use Rattle.paper.specs.Fresh.{layoutTop}
 use Rattle.paper.specs.Governed.{sheet}
 use Rattle.paper.specs.Sheet.{octet, write}
 use Rattle.paper.specs.Sound.{Sound}
 use Rattle.pool.proofs.Holding.{read-is}
-use Rattle.reading.specs.Read.{read}
 use Rattle.convert.specs.Converting.{convert, convertCall, moves, other}
 use Rattle.convert.specs.Reserved.{Reserved}
-use Rattle.convert.proofs.BothWays.{Lost, back, governed-back, lost, reserved-back, there, there-stands, through-1, through-2}
+use Rattle.convert.proofs.BothWays.{back, governed-back, lost, reserved-back, there, there-stands, through-1, through-2}
 
 -- a pool of the layout that is named is moved
 module _ (bs : List ℕ) (bytes : Bytes bs) (s : State) (S : Stands s bs) (old : ℕ) where

@@ -1,9 +1,9 @@
 -- The loops along the levels: the whole is what is left from here, and each way out or on is one law.
 use mathlib.Core.List.{List}
 use mathlib.Core.Path.{_≡_, refl, sym, ap, _∙_}
-use Prim.Native.Nat.{ℕ, zero, suc, _+_, _-_, _≤_, _<_}
+use Prim.Native.Nat.{ℕ, suc, _+_, _-_, _≤_, _<_}
 use native.Mathlib.Omega.{arith}
-use lib.ListN.{getD, length, set}
+use lib.ListN.{length, set}
 use Rattle.words.proofs.Laws.{put-length}
 use Rattle.words.specs.Choice.{if<-no, if<-yes}
 use Rattle.words.specs.Words.{putAt}

@@ -3,10 +3,9 @@
 // Down to one level, that clears the false block's words: no bin stands on a level above, so the last one there is the false block.
 ghost use mathlib.Core.Path.{_≡_};
 ghost use Prim.Native.Nat.{_-_};
-ghost use Rattle.paper.specs.Layout.{levels};
-ghost use Rattle.moving.specs.Move.{moving, stand as stand-of, pass as pass-of, sizes, closed, moved};
+ghost use Rattle.paper.specs.Layout.{chain-at, false-block, levels};
 ghost use Rattle.bins.specs.Find.{linkedAt};
-ghost use Rattle.paper.specs.Layout.{false-block, chain-at};
+ghost use Rattle.moving.specs.Move.{moving, stand as stand-of, pass as pass-of, sizes, closed, moved};
 use levels::HIGHER;
 use paper::CHAIN;
 use paper::FALSE_BLOCK;

@@ -1,5 +1,5 @@
 -- moving::close meets its contract: the invariant says that all levels are the levels from here.
-use Prim.Native.Nat.{_-_, suc}
+use Prim.Native.Nat.{_-_}
 use borrow.Author.Needs.{needs}
 use mathlib.Core.Path.{refl}
 use native.Mathlib.Omega.{arith}
