@@ -75,6 +75,42 @@ static void conversions(size_t n) {
             one_conversion(&shapes[s], n, old);
 }
 
+// What sends small blocks home, beside an inspection of the same pool with the block at E held: the give-back of that block; bringing in what the pool
+// is when that block was given back by the old rule; and bringing in the pool as it is, which sends nothing home.
+enum { GIVES, BRINGS, BRINGS_NONE, WAYS };
+static const char *const ways[WAYS] = {"give back at E", "bring in", "bring in, none at E"};
+
+static uint64_t go_home(const struct library *library, int way) {
+    uint64_t answer;
+    if (way == BRINGS)
+        stay_at_edge(pool);
+    if (way == GIVES)
+        COUNTED(answer = library->give_back(pool, LARGEST, edge_of(image) + 4));
+    else
+        COUNTED(answer = library->bring_in(pool, LARGEST));
+    return answer;
+}
+
+static void one_home(const struct home *home) {
+    static uint8_t after[LARGEST];
+    char more[100];
+    home->build(image);
+    for (int way = 0; way < WAYS; way++)
+        for (int l = 0; l < LIBRARIES; l++) {
+            memcpy(pool, image, LARGEST);
+            COUNTED(libraries[l]->inspect(pool, LARGEST));
+            snprintf(more, sizeof more, "%s | %s inspection", home->name, libraries[l]->name);
+            done("home", ways[way], more, 1);
+            uint64_t answer = go_home(libraries[l], way);
+            snprintf(more, sizeof more, "%s | %s", home->name, libraries[l]->name);
+            done("home", ways[way], more, 1);
+            if (l == 0)
+                memcpy(after, pool, LARGEST);
+            if (answer >> 32 || (way != GIVES && answer != (way == BRINGS ? home->blocks : 0)) || memcmp(pool, after, LARGEST))
+                abort();
+        }
+}
+
 static uint64_t operate(const struct operation *o, const struct library *library, uint32_t argument) {
     uint64_t answer;
     memcpy(pool, image, LARGEST);
@@ -326,6 +362,8 @@ void count(void) {
     finds();
     conversions(LARGEST);
     conversions(1024);
+    for (int h = 0; h < HOMES; h++)
+        one_home(&homes[h]);
     banks();
     tape(1);
     tape(2);

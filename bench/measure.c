@@ -5,16 +5,16 @@
 #include <string.h>
 
 const struct library proved = {
-    "proved", pool_lay_out, pool_convert, pool_inspect, pool_take, pool_give_back, pool_ask, pool_figures, pool_class_count,
+    "proved", pool_lay_out, pool_convert, pool_bring_in, pool_inspect, pool_take, pool_give_back, pool_ask, pool_figures, pool_class_count,
     bank_set, bank_clear, bank_recall,
 };
 const struct library plain = {
-    "plain", plain_lay_out, plain_convert, plain_inspect, plain_take, plain_give_back, plain_ask, plain_figures, plain_class_count,
+    "plain", plain_lay_out, plain_convert, plain_bring_in, plain_inspect, plain_take, plain_give_back, plain_ask, plain_figures, plain_class_count,
     plain_bank_set, plain_bank_clear, plain_bank_recall,
 };
 const struct library file = {
-    "file", file_pool_lay_out, file_pool_convert, file_pool_inspect, file_pool_take, file_pool_give_back, file_pool_ask, file_pool_figures,
-    file_pool_class_count, file_bank_set, file_bank_clear, file_bank_recall,
+    "file", file_pool_lay_out, file_pool_convert, file_pool_bring_in, file_pool_inspect, file_pool_take, file_pool_give_back, file_pool_ask,
+    file_pool_figures, file_pool_class_count, file_bank_set, file_bank_clear, file_bank_recall,
 };
 const struct library *const libraries[LIBRARIES] = {&proved, &plain, &file};
 

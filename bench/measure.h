@@ -5,6 +5,7 @@
 #include "../include/bank.h"
 #include "banks.h"
 #include "firstfit.h"
+#include "homes.h"
 #include "plain.h"
 #include "shapes.h"
 
@@ -12,6 +13,7 @@ struct library {
     const char *name;
     uint64_t (*lay_out)(uint8_t *, size_t, uint32_t);
     uint64_t (*convert)(uint8_t *, size_t, uint32_t);
+    uint64_t (*bring_in)(uint8_t *, size_t);
     uint64_t (*inspect)(const uint8_t *, size_t);
     uint64_t (*take)(uint8_t *, size_t, uint32_t);
     uint64_t (*give_back)(uint8_t *, size_t, uint32_t);
@@ -29,6 +31,7 @@ extern const struct library *const libraries[LIBRARIES]; // those that are timed
 // The C file's calls: bench/run compiles c/pool.c with other names, since the archive has those.
 uint64_t file_pool_lay_out(uint8_t *, size_t, uint32_t);
 uint64_t file_pool_convert(uint8_t *, size_t, uint32_t);
+uint64_t file_pool_bring_in(uint8_t *, size_t);
 uint64_t file_pool_inspect(const uint8_t *, size_t);
 uint64_t file_pool_take(uint8_t *, size_t, uint32_t);
 uint64_t file_pool_give_back(uint8_t *, size_t, uint32_t);

@@ -189,7 +189,8 @@ static bool large_bins_ok(const uint8_t *pool, size_t n, struct marks *m, uint32
     return true;
 }
 
-static bool sound(const uint8_t *pool, size_t n) {
+// By the rule before small blocks went home: a free block may stand at E.
+static bool sound_by_old_rule(const uint8_t *pool, size_t n) {
     if (!header_ok(pool, n))
         return false;
     uint32_t start = word(pool, START), end = word(pool, END);
@@ -203,6 +204,11 @@ static bool sound(const uint8_t *pool, size_t n) {
     uint32_t left = seen.count;
     return small_bins_ok(pool, n, &m, &left) && large_bins_ok(pool, n, &m, &left) && left == 0;
 }
+
+// Whether a free small block starts at a place of the run from E to n, or at its end, where none does.
+static inline bool free_at(const uint8_t *pool, size_t n, uint32_t at) { return at != n && !(word(pool, at) & HELD); }
+
+static bool sound(const uint8_t *pool, size_t n) { return sound_by_old_rule(pool, n) && !free_at(pool, n, word(pool, END)); }
 
 static uint32_t refusal(const uint8_t *pool, size_t n) {
     return !allowed(n) ? NOT_ALLOWED : !sound(pool, n) ? NOT_SOUND : 0;
@@ -391,7 +397,44 @@ static uint32_t held_at(const uint8_t *pool, size_t n, uint32_t offset) {
     return w & HELD ? w / 4 : 0;
 }
 
-static void give_back_small(uint8_t *pool, uint32_t q, uint32_t z) {
+// The remainder ends at the new edge. Its free word is the caller's: what only goes home was free before.
+static void move_edge(uint8_t *pool, uint32_t edge) {
+    uint32_t start = word(pool, START);
+    put(pool, END, edge);
+    put(pool, start, 4 * (edge - start) + P);
+}
+
+// Where the free blocks from `at` on end, each counted: at a held block, or at n.
+static uint32_t past_free(const uint8_t *pool, size_t n, uint32_t at, uint32_t *count) {
+    for (; free_at(pool, n, at); ++*count)
+        at += size_at(pool, at);
+    return at;
+}
+
+// Once along each list of small blocks: what lies below the edge leaves it. Only a bin's word or the link of a block that stays is stored into, so
+// that the others keep all their bytes.
+static void leave_below(uint8_t *pool, uint32_t edge) {
+    for (uint32_t z = 8; z < LARGE; z += 8) {
+        uint32_t at = SMALL_BINS + z;
+        for (uint32_t q = word(pool, at); q != 0; q = word(pool, q + SMALL_NEXT))
+            if (q >= edge) {
+                put(pool, at, q);
+                at = q + SMALL_NEXT;
+            }
+        put(pool, at, 0);
+    }
+}
+
+// At E it goes home, without a word of its own being touched, and with it the free blocks above; elsewhere it is put in front of its bin, and the
+// block at E is held.
+static void give_back_small(uint8_t *pool, size_t n, uint32_t q, uint32_t z) {
+    if (q == word(pool, END)) {
+        uint32_t above = 0, edge = past_free(pool, n, q + z, &above);
+        if (above)
+            leave_below(pool, edge);
+        move_edge(pool, edge);
+        return;
+    }
     put(pool, q, 4 * z + P);
     put(pool, q + SMALL_NEXT, word(pool, SMALL_BINS + z));
     put(pool, SMALL_BINS + z, q);
@@ -437,7 +480,7 @@ uint64_t plain_give_back_unchecked(uint8_t *pool, size_t n, uint32_t offset) {
     if (z == 0)
         return refused(NOT_HELD);
     if (z < LARGE)
-        give_back_small(pool, offset - 4, z);
+        give_back_small(pool, n, offset - 4, z);
     else
         give_back_large(pool, offset - 4, z);
     add_free(pool, z);
@@ -513,6 +556,20 @@ uint64_t plain_convert(uint8_t *pool, size_t n, uint32_t old) {
     else
         to_layout_1(pool);
     return n;
+}
+
+// A pool that is sound by the old rule: the free blocks at E go home. How many they were.
+uint64_t plain_bring_in(uint8_t *pool, size_t n) {
+    if (!allowed(n))
+        return refused(NOT_ALLOWED);
+    if (!sound_by_old_rule(pool, n))
+        return refused(NOT_SOUND);
+    uint32_t count = 0, edge = past_free(pool, n, word(pool, END), &count);
+    if (count) {
+        leave_below(pool, edge);
+        move_edge(pool, edge);
+    }
+    return count;
 }
 
 uint64_t plain_ask(const uint8_t *pool, size_t n, uint32_t offset) {

@@ -2,7 +2,7 @@
 // library.
 //
 // An answer is one number: the refusal in the upper 32 bits, the value in the lower. Every call but laying out inspects the
-// pool first. The forms `_unchecked` leave that out, and nothing else: a give-back still looks its offset up.
+// pool first, bringing in by the rule before small blocks went home. The forms `_unchecked` leave that out, and nothing else: a give-back still looks its offset up.
 #ifndef PLAIN_H
 #define PLAIN_H
 #include <stddef.h>
@@ -10,6 +10,7 @@
 
 uint64_t plain_lay_out(uint8_t *pool, size_t n, uint32_t layout);
 uint64_t plain_convert(uint8_t *pool, size_t n, uint32_t old);
+uint64_t plain_bring_in(uint8_t *pool, size_t n);
 uint64_t plain_inspect(const uint8_t *pool, size_t n);
 uint64_t plain_take(uint8_t *pool, size_t n, uint32_t size);
 uint64_t plain_give_back(uint8_t *pool, size_t n, uint32_t offset);

@@ -6,10 +6,11 @@
 enum { ROOM = 16384 };
 static uint32_t offsets[ROOM];
 
-// A fixed sequence, the same on every run.
 static uint32_t state;
 
-static uint32_t random_below(uint32_t bound) {
+void seed(uint32_t from) { state = from; }
+
+uint32_t random_below(uint32_t bound) {
     state = state * 1664525 + 1013904223;
     return (uint32_t)((uint64_t)(state >> 8) * bound >> 24);
 }
@@ -25,7 +26,7 @@ static void give_back(uint8_t *pool, size_t n, uint32_t offset) {
         abort();
 }
 
-static void shuffle(uint32_t *list, uint32_t count) {
+void shuffle(uint32_t *list, uint32_t count) {
     for (uint32_t i = count; i > 1; i--) {
         uint32_t j = random_below(i), kept = list[j];
         list[j] = list[i - 1];
@@ -57,10 +58,10 @@ static void full(uint8_t *pool, size_t n) {
         continue;
 }
 
-// Small blocks of all eight sizes, three of four given back in no order.
+// Small blocks of all eight sizes, three of four given back in no order; those at E go home.
 static void free_small(uint8_t *pool, size_t n) {
     uint32_t count = 0;
-    state = 3;
+    seed(3);
     plain_lay_out(pool, n, 1);
     while (take(pool, n, 4 + 8 * random_below(8), &offsets[count]))
         count++;
@@ -72,7 +73,7 @@ static void free_small(uint8_t *pool, size_t n) {
 // A free large block of each size from 72 on, as many as there is room for, each above a held one of 72 bytes.
 static void bins_in(uint8_t *pool, size_t n, uint32_t layout) {
     uint32_t count = 0, guard;
-    state = 4;
+    seed(4);
     plain_lay_out(pool, n, layout);
     while (take(pool, n, 68, &guard) && take(pool, n, 68 + 8 * count, &offsets[count]))
         count++;
@@ -99,7 +100,7 @@ void build_bins(uint8_t *pool, size_t *n, uint32_t bins, uint32_t layout) {
 // Records come and go until three quarters of the pool were once used.
 static void console(uint8_t *pool, size_t n) {
     uint32_t count = 0, figures[7];
-    state = 5;
+    seed(5);
     plain_lay_out(pool, n, 1);
     do {
         if (count > 2 && random_below(5) < 2) {
@@ -177,7 +178,7 @@ const struct operation operations[OPERATIONS] = {
 
 void make_requests(struct request *requests) {
     uint8_t in_use[RECORDS] = {0};
-    state = 6;
+    seed(6);
     for (uint32_t i = 0; i < REQUESTS; i++) {
         uint32_t record = random_below(RECORDS);
         requests[i] = (struct request){record, in_use[record] ? 0 : record_size()};

@@ -25,6 +25,11 @@ extern const struct operation operations[OPERATIONS];
 // bins' sizes are 72, 80, 88 and so on.
 void build_bins(uint8_t *pool, size_t *n, uint32_t bins, uint32_t layout);
 
+// A fixed sequence from a start, the same on every run: a number below a bound, and a list in no order.
+void seed(uint32_t from);
+uint32_t random_below(uint32_t bound);
+void shuffle(uint32_t *list, uint32_t count);
+
 // Request i takes `size` bytes for its record, or gives the record back where the size is 0.
 struct request {
     uint32_t record, size;

@@ -164,6 +164,7 @@ static int command(int letter) {
         printf("I 0 %u", v);
         return 1;
     case 'L': line('L', CALL(lay_out)(pool, n, 1)); return 1;
+    case 'H': line('H', CALL(bring_in)(pool, n)); return 1;
     case 'N': line('N', CALL(inspect)(pool, n)); return 1;
     case 'S': figures(); return 1;
     case 'D':

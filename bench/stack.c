@@ -5,7 +5,7 @@
 #include <string.h>
 #include <ucontext.h>
 
-enum { DEPTH = 65536, PAINT = 0xA5, FALSE_LEVEL = 108, CALLS = 8, OF_BANK = 3 };
+enum { DEPTH = 65536, PAINT = 0xA5, FALSE_LEVEL = 108, CALLS = 9, OF_BANK = 3 };
 static uint8_t ground[DEPTH] __attribute__((aligned(16))), pool[LARGEST], image[LARGEST];
 static ucontext_t here, there;
 static uint32_t argument, counts[53];
@@ -17,6 +17,7 @@ static uint8_t kind;
 static void empty(void) {}
 static void lay_out(void) { pool_lay_out(pool, LARGEST, 2); }
 static void convert(void) { pool_convert(pool, LARGEST, pool[FALSE_LEVEL] == 1 ? POOL_LAYOUT_1 : POOL_LAYOUT_2); }
+static void bring_in(void) { pool_bring_in(pool, LARGEST); }
 static void inspect(void) { pool_inspect(pool, LARGEST); }
 static void take(void) { pool_take(pool, LARGEST, argument); }
 static void give_back(void) { pool_give_back(pool, LARGEST, argument); }
@@ -33,7 +34,7 @@ struct called {
     void (*call)(void);
 };
 static const struct called calls[CALLS] = {
-    {"pool_lay_out", lay_out}, {"pool_convert", convert}, {"pool_inspect", inspect}, {"pool_take", take},
+    {"pool_lay_out", lay_out}, {"pool_convert", convert}, {"pool_bring_in", bring_in}, {"pool_inspect", inspect}, {"pool_take", take},
     {"pool_give_back", give_back}, {"pool_ask", ask}, {"pool_figures", figures}, {"pool_class_count", class_count},
 };
 static const struct called of_bank[OF_BANK] = {{"bank_set", set}, {"bank_clear", clear}, {"bank_recall", recall}};
@@ -60,6 +61,14 @@ static size_t deepest(void (*call)(void)) {
         shapes[operations[o].shape].build(image, LARGEST);
         argument = operations[o].argument(image, LARGEST);
         memcpy(pool, image, LARGEST);
+        most = greater(most, depth_of(call));
+    }
+    // pools that send blocks home, and for bringing in what they were by the old rule
+    for (int h = 0; h < HOMES; h++) {
+        homes[h].build(pool);
+        argument = edge_of(pool) + 4;
+        if (call == bring_in)
+            stay_at_edge(pool);
         most = greater(most, depth_of(call));
     }
     return most;

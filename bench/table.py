@@ -4,7 +4,8 @@
                            the counts: valgrind's dumps, or the lines of steps.
                            In DOCS/BENCH.md only what stands between the two marker lines is replaced.
 
-Ends with status 1, after it has written both, where a call of the piston bank, layout 2 or the move to the other layout costs more than it may.
+Ends with status 1, after it has written both, where a call of the piston bank, layout 2, the move to the other layout or going home costs more
+than it may.
 """
 
 import glob
@@ -24,6 +25,8 @@ BINS, BINS_2 = "many free large bins", "many free large bins, layout 2"
 CALLS_PART, INSPECTION_PART = 0.5, 1.4
 # What a move to the other layout may cost at most, in inspections of the pool that it meets.
 MOVE = 3
+# What a call that sends small blocks home may cost at most, in inspections of the same pool with the block at E held.
+HOME = 2
 FILE = ["C file", "C file over proved"]
 BEGIN, END = "<!-- measured: begin -->", "<!-- measured: end -->"
 
@@ -227,6 +230,28 @@ class Report:
     def dearest_move(self):
         return max(inspections["proved"] for n in (65536, 1024) for *_, inspections in self.moves(n))
 
+    def going_home(self):
+        """For each call that sends blocks home its name, the pool, what it costs by each library, and an inspection of that pool."""
+        for kind, way, pool in unique(key[:3] for key in self.count if key[0] == "home"):
+            cost, look = ({who: self.count[kind, way, pool, who + what] for who in ("proved", "plain")} for what in ("", " inspection"))
+            yield way, pool, cost, look
+
+    def homes(self):
+        rows = []
+        for way, pool, cost, look in self.going_home():
+            label = f"{pool}: {way}"
+            less = {who: cost[who] - look[who] for who in cost}
+            # one that sends nothing home is an inspection, which is drawn already
+            over = ratio(cost["proved"], cost["plain"]) if "none" in way else self.bar(label, cost["proved"], cost["plain"])
+            rows.append([label, number(cost["proved"]), as_text(cost["proved"] / look["proved"], HOME), number(cost["plain"]),
+                         as_text(cost["plain"] / look["plain"], HOME), over, number(less["proved"]), number(less["plain"]),
+                         ratio(less["proved"], less["plain"]), *self.file(("home", way, pool))])
+        return table(["Call", "Proved", "In inspections", "Plain C", "In inspections", "Ratio", "Proved, less inspection",
+                      "Plain C, less inspection", "Ratio", *FILE], rows)
+
+    def dearest_home(self):
+        return max(cost["proved"] / look["proved"] for _, _, cost, look in self.going_home())
+
     def dearest(self):
         """What the dearest set and the dearest recall cost in inspections, and what they may cost."""
         for call, most in MOST.items():
@@ -280,6 +305,8 @@ class Report:
         out += ["### Moving to the other layout: instructions a call, a pool of 65,536 bytes", ""] + self.conversions(65536)
         out += ["### Moving to the other layout: instructions a call, a pool of 1,024 bytes", ""] + self.conversions(1024)
         out += [f"A move costs {as_text(self.dearest_move(), MOVE)} inspections, the dearest of these, and may cost {MOVE}.", ""]
+        out += ["### Going home: instructions a call, pools of 65,536 bytes", ""] + self.homes()
+        out += [f"Going home costs {as_text(self.dearest_home(), HOME)} inspections, the dearest of these, and may cost {HOME}.", ""]
         out += ["### Figures and class count: instructions a call, a pool of 65,536 bytes", ""] + self.countings()
         out += ["### The piston bank: instructions a call, the mixed console of 65,536 bytes with 32 pistons set", ""] + self.bank()
         for call, cost, most in self.dearest():
@@ -339,6 +366,8 @@ def main():
     dear += [sentence.format(as_text(cost, most)) + f", and may cost {most}" for sentence, cost, most in report.limits_of_layouts() if cost > most]
     if report.dearest_move() > MOVE:
         dear.append(f"a move to the other layout costs {as_text(report.dearest_move(), MOVE)} inspections, and may cost {MOVE}")
+    if report.dearest_home() > HOME:
+        dear.append(f"going home costs {as_text(report.dearest_home(), HOME)} inspections, and may cost {HOME}")
     if dear:
         sys.exit("bench/table.py: " + "; ".join(dear))
 

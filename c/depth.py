@@ -25,7 +25,7 @@ def depth(function, above=()):
     return own[function] + max((depth(c, (*above, function)) for c in calls.get(function, [])), default=0)
 
 
-CALLS = "pool_lay_out pool_inspect pool_take pool_give_back pool_ask pool_convert pool_figures pool_class_count bank_set bank_clear bank_recall"
+CALLS = "pool_lay_out pool_inspect pool_take pool_give_back pool_ask pool_convert pool_bring_in pool_figures pool_class_count bank_set bank_clear bank_recall"
 exported = [call for call in CALLS.split() if call in own]
 for function in exported:
     print(f"  {names[function]}: stack {depth(function)}")

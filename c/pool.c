@@ -133,6 +133,12 @@ typedef struct {
     uint32_t largest;
 } paper_Figures;
 
+// Free blocks end to end: where they end, and how many they are.
+typedef struct {
+    uint32_t end;
+    uint32_t blocks;
+} homing_Run;
+
 // The answer of a call for the figures.
 enum { PAPER_TALLY_COUNTED, PAPER_TALLY_REFUSED };
 typedef struct {
@@ -319,6 +325,14 @@ static inline paper_Figures paper_Figures_of(uint32_t held_blocks, uint32_t held
     return made;
 }
 
+static inline homing_Run homing_Run_of(uint32_t end, uint32_t blocks)
+{
+    homing_Run made;
+    made.end = end;
+    made.blocks = blocks;
+    return made;
+}
+
 static inline paper_Tally paper_Tally_Counted(paper_Figures f0)
 {
     paper_Tally made;
@@ -471,6 +485,11 @@ static inline void words_put64(unsigned char *s, size_t s_len, uint64_t at, uint
 
 // ---- heads: the head word taken apart and put together, block sizes, signed links
 
+static inline heads_Head heads_apart(uint32_t w)
+{
+    return heads_Head_of(w >> 2u, ((w >> 1u) & 1u) == 1u, (w & 1u) == 1u);
+}
+
 static inline uint32_t heads_together(heads_Head h)
 {
     return ((h.size << 2u) | ((uint32_t)h.p << 1u)) | (uint32_t)h.held;
@@ -540,11 +559,6 @@ static inline uint32_t heads_link_word(uint32_t from, uint32_t to)
         return 0u;
     }
     return heads_word_of(heads_between(from, to));
-}
-
-static inline heads_Head heads_apart(uint32_t w)
-{
-    return heads_Head_of(w >> 2u, ((w >> 1u) & 1u) == 1u, (w & 1u) == 1u);
 }
 
 // The distance back. The least number of 32 bits has no opposite and stays.
@@ -1164,7 +1178,17 @@ static inline int inspect_allowed(uint64_t n)
     return n % 8u == 0u;
 }
 
-// The tests, the cheap ones first. A mark is one bit for each 8 bytes of the pool.
+// Whether the pool ends at E or the block there is held (request 2026-06): of a pool that is sound by the old rule, exactly whether it is sound.
+static inline int inspect_edge_held(const unsigned char *pool, size_t pool_len)
+{
+    uint64_t e = (uint64_t)words_get32(pool, pool_len, PAPER_END);
+    if (e == pool_len) {
+        return 1;
+    }
+    return heads_apart(words_get32(pool, pool_len, e)).held;
+}
+
+// The tests of the old rule, the cheap ones first. A mark is one bit for each 8 bytes of the pool.
 static inline int inspect_inspect(const unsigned char *pool, size_t pool_len)
 {
     if (!inspect_allowed(pool_len)) {
@@ -1192,8 +1216,8 @@ static inline int inspect_inspect(const unsigned char *pool, size_t pool_len)
     return lists_all_listed(pool, pool_len, m, 128u, t.count);
 }
 
-// Whether the pool is sound: exactly that.
-static inline int inspect_sound(const unsigned char *pool, size_t pool_len)
+// Whether the pool is sound by the old rule, under which a free block could stand at E: exactly that. The rule in force asks one thing more.
+static inline int inspect_sound_by_old_rule(const unsigned char *pool, size_t pool_len)
 {
     return inspect_inspect(pool, pool_len);
 }
@@ -1739,107 +1763,6 @@ static inline paper_Answer grant_take(unsigned char *pool, size_t pool_len, uint
     return grant_carry_out(pool, pool_len, choice);
 }
 
-// ---- giveback: giving a block back
-
-static inline void giveback_give_back_small(unsigned char *pool, size_t pool_len, uint32_t q, uint32_t z)
-{
-    uint32_t first = words_field(pool, pool_len, PAPER_SMALL_BINS, z);
-    words_put32(pool, pool_len, (uint64_t)q, heads_free_head(z));
-    words_put_field(pool, pool_len, q, PAPER_SMALL_NEXT, first);
-    words_put_field(pool, pool_len, PAPER_SMALL_BINS, z, q);
-}
-
-// Where the run starts: at the free large block below, whose size its footer tells, or at q.
-static inline uint32_t giveback_run_start(const unsigned char *pool, size_t pool_len, uint32_t q)
-{
-    heads_Head head = heads_apart(words_get32(pool, pool_len, (uint64_t)q));
-    if (head.p) {
-        return q;
-    }
-    uint32_t foot = words_get32(pool, pool_len, (uint64_t)words_minus(q, 4u));
-    return words_minus(q, heads_apart(foot).size);
-}
-
-// The free block at `start`, if it is another than q, leaves its bin.
-static inline void giveback_leave_below(unsigned char *pool, size_t pool_len, uint32_t start, uint32_t q)
-{
-    if (start == q) {
-        return;
-    }
-    bins_leave(pool, pool_len, start);
-}
-
-// The run touches the remainder, which then starts where the run starts.
-static inline void giveback_join_rest(unsigned char *pool, size_t pool_len, uint32_t start, uint32_t q)
-{
-    giveback_leave_below(pool, pool_len, start, q);
-    uint32_t end = words_get32(pool, pool_len, PAPER_END);
-    words_put32(pool, pool_len, PAPER_START, start);
-    words_put32(pool, pool_len, (uint64_t)start, heads_free_head(words_minus(end, start)));
-}
-
-// The bytes from `start` to `end` are one free block, and it enters its bin.
-static inline void giveback_settle(unsigned char *pool, size_t pool_len, uint32_t start, uint32_t end)
-{
-    bins_enter(pool, pool_len, start, words_minus(end, start));
-}
-
-// The run ends at `top`, or past the free block there.
-static inline void giveback_join_run(unsigned char *pool, size_t pool_len, uint32_t start, uint32_t q, uint32_t top)
-{
-    uint32_t word = words_get32(pool, pool_len, (uint64_t)top);
-    heads_Head above = heads_apart(word);
-    if (above.held) {
-        giveback_leave_below(pool, pool_len, start, q);
-        words_put32(pool, pool_len, (uint64_t)top, heads_with_p(word, 0));
-        giveback_settle(pool, pool_len, start, top);
-        return;
-    }
-    uint32_t end = words_plus(top, above.size);
-    if (start == q) {
-        bins_leave(pool, pool_len, top);
-        giveback_settle(pool, pool_len, start, end);
-        return;
-    }
-    bins_leave_both(pool, pool_len, start, top);
-    giveback_settle(pool, pool_len, start, end);
-}
-
-static inline void giveback_give_back_large(unsigned char *pool, size_t pool_len, uint32_t q, uint32_t z)
-{
-    uint32_t start = giveback_run_start(pool, pool_len, q);
-    uint32_t top = words_plus(q, z);
-    if (top == words_get32(pool, pool_len, PAPER_START)) {
-        giveback_join_rest(pool, pool_len, start, q);
-        return;
-    }
-    giveback_join_run(pool, pool_len, start, q, top);
-}
-
-// The block at q, z bytes long, is free, in a bin or in the remainder.
-static inline void giveback_put_back(unsigned char *pool, size_t pool_len, uint32_t q, uint32_t z)
-{
-    if (z < PAPER_LARGE) {
-        giveback_give_back_small(pool, pool_len, q, z);
-        return;
-    }
-    giveback_give_back_large(pool, pool_len, q, z);
-}
-
-// The free word rises by z.
-static inline void giveback_earn(unsigned char *pool, size_t pool_len, uint32_t z)
-{
-    uint32_t free = words_get32(pool, pool_len, PAPER_FREE_WORD);
-    words_put32(pool, pool_len, PAPER_FREE_WORD, words_plus(free, z));
-}
-
-// The held block at q, z bytes long, comes back.
-static inline void giveback_give_back(unsigned char *pool, size_t pool_len, uint32_t q, uint32_t z)
-{
-    giveback_put_back(pool, pool_len, q, z);
-    giveback_earn(pool, pool_len, z);
-}
-
 // ---- walk: along the blocks: looking an offset up, the figures, the class count
 
 // Where the pool ends, as a position; no pool is longer than 65,536 bytes.
@@ -2014,18 +1937,231 @@ static inline paper_Figures walk_tally(const unsigned char *pool, size_t pool_le
     return all;
 }
 
+// ---- homing: the free small blocks at the edge leave their bins and join the remainder
+
+// The free blocks from `from` on. A block of size 0, which no sound pool has, ends them.
+static inline homing_Run homing_free_run(const unsigned char *pool, size_t pool_len, uint32_t from)
+{
+    uint32_t to = walk_pool_end(pool, pool_len);
+    uint32_t end = from;
+    uint32_t blocks = 0u;
+    while (end < to) {
+        heads_Head head = heads_apart(words_get32(pool, pool_len, (uint64_t)end));
+        if (head.held) {
+            return homing_Run_of(end, blocks);
+        }
+        if (head.size == 0u) {
+            return homing_Run_of(end, blocks);
+        }
+        end = words_plus(end, head.size);
+        blocks = words_plus(blocks, 1u);
+    }
+    return homing_Run_of(end, blocks);
+}
+
+// The word at `at` leads to q; it is stored only where it does not yet.
+static inline void homing_lead(unsigned char *pool, size_t pool_len, uint32_t at, uint32_t q)
+{
+    if (words_get32(pool, pool_len, (uint64_t)at) == q) {
+        return;
+    }
+    words_put32(pool, pool_len, (uint64_t)at, q);
+}
+
+// The list whose first member stands at `first`, without what lies below `edge`. `at` is the word that leads on from what stays so far.
+// No list has as many members as the pool has words of 8 bytes.
+static inline void homing_prune(unsigned char *pool, size_t pool_len, uint32_t first, uint32_t edge)
+{
+    uint64_t left = (uint64_t)pool_len >> 3;
+    uint32_t at = first;
+    uint32_t q = words_get32(pool, pool_len, (uint64_t)first);
+    while (left != 0u) {
+        if (q == 0u) {
+            homing_lead(pool, pool_len, at, 0u);
+            return;
+        }
+        uint32_t next = words_field(pool, pool_len, q, PAPER_SMALL_NEXT);
+        if (edge <= q) {
+            homing_lead(pool, pool_len, at, q);
+            at = words_plus(q, PAPER_SMALL_NEXT);
+        }
+        q = next;
+        left = left - 1u;
+    }
+}
+
+// The eight small bins, whose first blocks stand in the header, without what lies below `edge`.
+static inline void homing_prune_all(unsigned char *pool, size_t pool_len, uint32_t edge)
+{
+    uint32_t first = (uint32_t)PAPER_SMALL_BINS + 8u;
+    while (first != PAPER_FALSE_BLOCK) {
+        homing_prune(pool, pool_len, first, edge);
+        first = first + 8u;
+    }
+}
+
+// All up to the end of the free blocks from `from` on is the remainder. Answers how many these are.
+static inline uint32_t homing_go_home(unsigned char *pool, size_t pool_len, uint32_t from)
+{
+    homing_Run run = homing_free_run(pool, pool_len, from);
+    if (run.blocks != 0u) {
+        homing_prune_all(pool, pool_len, run.end);
+    }
+    uint32_t start = words_get32(pool, pool_len, PAPER_START);
+    words_put32(pool, pool_len, PAPER_END, run.end);
+    words_put32(pool, pool_len, (uint64_t)start, heads_free_head(words_minus(run.end, start)));
+    return run.blocks;
+}
+
+// ---- giveback: giving a block back
+
+// It is the first of its bin.
+static inline void giveback_at_front(unsigned char *pool, size_t pool_len, uint32_t q, uint32_t z)
+{
+    uint32_t first = words_field(pool, pool_len, PAPER_SMALL_BINS, z);
+    words_put32(pool, pool_len, (uint64_t)q, heads_free_head(z));
+    words_put_field(pool, pool_len, q, PAPER_SMALL_NEXT, first);
+    words_put_field(pool, pool_len, PAPER_SMALL_BINS, z, q);
+}
+
+// In a sound pool the block at E was held, so only the one that comes back can be free there.
+static inline void giveback_give_back_small(unsigned char *pool, size_t pool_len, uint32_t q, uint32_t z)
+{
+    if (q == words_get32(pool, pool_len, PAPER_END)) {
+        (void)homing_go_home(pool, pool_len, words_plus(q, z));
+        return;
+    }
+    giveback_at_front(pool, pool_len, q, z);
+}
+
+// Where the run starts: at the free large block below, whose size its footer tells, or at q.
+static inline uint32_t giveback_run_start(const unsigned char *pool, size_t pool_len, uint32_t q)
+{
+    heads_Head head = heads_apart(words_get32(pool, pool_len, (uint64_t)q));
+    if (head.p) {
+        return q;
+    }
+    uint32_t foot = words_get32(pool, pool_len, (uint64_t)words_minus(q, 4u));
+    return words_minus(q, heads_apart(foot).size);
+}
+
+// The free block at `start`, if it is another than q, leaves its bin.
+static inline void giveback_leave_below(unsigned char *pool, size_t pool_len, uint32_t start, uint32_t q)
+{
+    if (start == q) {
+        return;
+    }
+    bins_leave(pool, pool_len, start);
+}
+
+// The run touches the remainder, which then starts where the run starts.
+static inline void giveback_join_rest(unsigned char *pool, size_t pool_len, uint32_t start, uint32_t q)
+{
+    giveback_leave_below(pool, pool_len, start, q);
+    uint32_t end = words_get32(pool, pool_len, PAPER_END);
+    words_put32(pool, pool_len, PAPER_START, start);
+    words_put32(pool, pool_len, (uint64_t)start, heads_free_head(words_minus(end, start)));
+}
+
+// The bytes from `start` to `end` are one free block, and it enters its bin.
+static inline void giveback_settle(unsigned char *pool, size_t pool_len, uint32_t start, uint32_t end)
+{
+    bins_enter(pool, pool_len, start, words_minus(end, start));
+}
+
+// The run ends at `top`, or past the free block there.
+static inline void giveback_join_run(unsigned char *pool, size_t pool_len, uint32_t start, uint32_t q, uint32_t top)
+{
+    uint32_t word = words_get32(pool, pool_len, (uint64_t)top);
+    heads_Head above = heads_apart(word);
+    if (above.held) {
+        giveback_leave_below(pool, pool_len, start, q);
+        words_put32(pool, pool_len, (uint64_t)top, heads_with_p(word, 0));
+        giveback_settle(pool, pool_len, start, top);
+        return;
+    }
+    uint32_t end = words_plus(top, above.size);
+    if (start == q) {
+        bins_leave(pool, pool_len, top);
+        giveback_settle(pool, pool_len, start, end);
+        return;
+    }
+    bins_leave_both(pool, pool_len, start, top);
+    giveback_settle(pool, pool_len, start, end);
+}
+
+static inline void giveback_give_back_large(unsigned char *pool, size_t pool_len, uint32_t q, uint32_t z)
+{
+    uint32_t start = giveback_run_start(pool, pool_len, q);
+    uint32_t top = words_plus(q, z);
+    if (top == words_get32(pool, pool_len, PAPER_START)) {
+        giveback_join_rest(pool, pool_len, start, q);
+        return;
+    }
+    giveback_join_run(pool, pool_len, start, q, top);
+}
+
+// The block at q, z bytes long, is free, in a bin or in the remainder.
+static inline void giveback_put_back(unsigned char *pool, size_t pool_len, uint32_t q, uint32_t z)
+{
+    if (z < PAPER_LARGE) {
+        giveback_give_back_small(pool, pool_len, q, z);
+        return;
+    }
+    giveback_give_back_large(pool, pool_len, q, z);
+}
+
+// The free word rises by z.
+static inline void giveback_earn(unsigned char *pool, size_t pool_len, uint32_t z)
+{
+    uint32_t free = words_get32(pool, pool_len, PAPER_FREE_WORD);
+    words_put32(pool, pool_len, PAPER_FREE_WORD, words_plus(free, z));
+}
+
+// The held block at q, z bytes long, comes back.
+static inline void giveback_give_back(unsigned char *pool, size_t pool_len, uint32_t q, uint32_t z)
+{
+    giveback_put_back(pool, pool_len, q, z);
+    giveback_earn(pool, pool_len, z);
+}
+
 // ---- reading: what a call finds when it reads the pool, and the number that it is refused with
 
-// 1 where n is not allowed, 2 where the pool is not sound, else 0.
-static inline uint8_t reading_refusal(const unsigned char *pool, size_t pool_len)
+// The old rule asks nothing of the block at E.
+static inline int reading_edge_ok(const unsigned char *pool, size_t pool_len, int old)
+{
+    if (old) {
+        return 1;
+    }
+    return inspect_edge_held(pool, pool_len);
+}
+
+// By the old rule or by the one in force. Both have the same tests but one, and one function has them all: the compiler puts the inspection into its
+// only caller, and keeps what is the same for every block in registers there.
+static inline uint8_t reading_why(const unsigned char *pool, size_t pool_len, int old)
 {
     if (!inspect_allowed(pool_len)) {
         return PAPER_NOT_ALLOWED;
     }
-    if (!inspect_sound(pool, pool_len)) {
+    if (!reading_edge_ok(pool, pool_len, old)) {
+        return PAPER_NOT_SOUND;
+    }
+    if (!inspect_sound_by_old_rule(pool, pool_len)) {
         return PAPER_NOT_SOUND;
     }
     return 0u;
+}
+
+// 1 where n is not allowed, 2 where the pool is not sound, else 0.
+static inline uint8_t reading_refusal(const unsigned char *pool, size_t pool_len)
+{
+    return reading_why(pool, pool_len, 0);
+}
+
+// The same by the old rule, under which a free block could stand at E. For bring-in alone.
+static inline uint8_t reading_old_refusal(const unsigned char *pool, size_t pool_len)
+{
+    return reading_why(pool, pool_len, 1);
 }
 
 // ---- serving: the calls on a pool that is known to be sound
@@ -2196,6 +2332,19 @@ static inline paper_Answer convert_convert(unsigned char *pool, size_t pool_len,
     return paper_Answer_Done((uint32_t)pool_len);
 }
 
+// ---- bringing: a pool that was stored under the old rule is brought in, a call above the pool
+
+// Answers how many blocks went home: 0 of a pool that is sound by the rule in force, and no byte of it changes.
+static inline paper_Answer bringing_bring_in(unsigned char *pool, size_t pool_len)
+{
+    uint8_t why = reading_old_refusal(pool, pool_len);
+    if (why != 0u) {
+        return paper_Answer_Refused(why);
+    }
+    uint32_t edge = words_get32(pool, pool_len, PAPER_END);
+    return paper_Answer_Done(homing_go_home(pool, pool_len, edge));
+}
+
 // ---- board: the public calls for C
 
 // The refusal's number in the upper half, the value in the lower half.
@@ -2214,6 +2363,12 @@ static inline uint64_t board_of(paper_Answer a)
 uint64_t pool_ask(const unsigned char *pool, size_t pool_len, uint32_t offset)
 {
     return board_of(pool_lib_ask(pool, pool_len, offset));
+}
+
+// Brings in a pool that was stored under the rule before 2026-06; answers how many blocks went home.
+uint64_t pool_bring_in(unsigned char *pool, size_t pool_len)
+{
+    return board_of(bringing_bring_in(pool, pool_len));
 }
 
 // Fills the 53 counters with the held blocks by size class; answers how many are held.

@@ -33,7 +33,7 @@
      record is copied out of the pool before it is set again. Of an empty body (length 0) nothing is read, and NULL will do.
    - Nobody else writes these bytes during the call; while a call writes, nobody else reads them.
    - Pool and bank belong together: both stand in the battery-backed memory, and are saved and brought back as one. A pool that pool_convert
-     has moved is still the same pool, and the numbers stay good.
+     has moved or pool_bring_in has brought in is still the same pool, and the numbers stay good.
    No other rule: any n, numbers, piston, kind and length get an answer, and a refusal changes no byte of pool and bank.
 
    What 12 (BANK_NOT_NAMED) means: somebody else has been at the pool or at the bank, or they are of different times. There are two cases:
@@ -53,7 +53,7 @@
    copies of pool and bank that are changed in turn: examples/c/copies.h has it.
 
    What a call costs: on a large pool a set some 4 inspections of the pool, a clear 3, a recall 2; a little more on a small one
-   (docs/BENCH.md). And 2.5 KiB of stack in the archive, 1.5 KiB in the C file on a Cortex-M (docs/BOARD.md). No heap, no global state: any
+   (docs/BENCH.md). And 2.5 KiB of stack in the archive, 1.6 KiB in the C file on a Cortex-M (docs/BOARD.md). No heap, no global state: any
    number of banks, several on one pool too. Nothing here locks. */
 #ifndef BANK_H
 #define BANK_H

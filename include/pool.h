@@ -17,6 +17,13 @@
    free large blocks: it finds one faster where many different sizes are free, and its bytes are not for firmware that knows layout 1 alone.
    pool_convert moves a pool from one to the other in the same bytes, and every payload stays as it is and where it is.
 
+   A free small block at E goes home: it joins the remainder, so that the room of short records can serve long ones again. Up to version 0.5 it
+   stayed where it was, so a pool that was stored then may have free blocks at E. Every call but two refuses such a pool with POOL_NOT_SOUND and
+   changes no byte of it; pool_lay_out would forget its records, and pool_bring_in takes it. So bring a stored pool in once, after the update,
+   before its first other call:
+
+       if (pool_refusal(pool_bring_in(pool, sizeof pool)) == POOL_NOT_SOUND) call_for_help();
+
    The bytes of a pool of n bytes; words are little-endian, of 8 bytes in the header and of 4 elsewhere (docs/FORMAT.md has every word):
 
        0      free word: all free sizes, less 4
@@ -28,7 +35,7 @@
               blocks start (+64; in layout 2 from +16 to +64)
        168    large blocks (72 bytes and more), end to end, held or free
        R      the remainder, free
-       E      small blocks (8 to 64 bytes), end to end, held or free
+       E      small blocks (8 to 64 bytes), end to end, held or free; the one at E is held
        n
 
    A block is a head of 4 bytes, then its payload; its size, head included, is a multiple of 8. An offset counts from the
@@ -36,8 +43,8 @@
    is aligned to 4, and never to 8.
 
    What you owe, since C cannot check it:
-   - `pool` points to n bytes of one object. pool_lay_out, pool_take, pool_give_back and pool_convert write them, the others only read.
-     They have been written before (any value will do), and `pool` needs no alignment.
+   - `pool` points to n bytes of one object. pool_lay_out, pool_take, pool_give_back, pool_convert and pool_bring_in write them, the others
+     only read. They have been written before (any value will do), and `pool` needs no alignment.
    - `figures` and `counts` point to `count` numbers of one array of uint32_t, aligned as such, that have been written before
      and that share no byte with the pool.
    - Nobody else writes these bytes during the call; while a call writes, nobody else reads them.
@@ -52,7 +59,7 @@
 
    A call that is cut off midway (a reset, the power, a watchdog) may have made some of its stores and not the others. Where that leaves
    a pool that is not sound, every later call says POOL_NOT_SOUND, and no call can mend it. Records that must outlive this are kept in two copies
-   that are changed in turn: examples/c/copies.h has it, in 40 lines, tried with a cut after every store. Or make the calls
+   that are changed in turn: examples/c/copies.h has it, in 60 lines, tried with a cut after every store. Or make the calls
    where they cannot be cut off.
 
    There is no pool_lend: after `r = pool_ask(pool, n, offset)` is done, the payload is the pool_value(r) bytes at pool + offset.
@@ -62,7 +69,7 @@
 #define POOL_H
 
 /* What changed with each version: docs/CHANGES.md. */
-#define POOL_VERSION "0.5.0"
+#define POOL_VERSION "0.6.0"
 
 #include <stddef.h>
 #include <stdint.h>
@@ -76,7 +83,7 @@ extern "C" {
 enum {
     POOL_DONE = 0,
     POOL_NOT_ALLOWED = 1,  /* n is not a multiple of 8 from 176 to 65,536 */
-    POOL_NOT_SOUND = 2,    /* the bytes are no pool that honest calls made */
+    POOL_NOT_SOUND = 2,    /* the bytes are no pool that honest calls made; or version 0.5 made them, and pool_bring_in takes them */
     POOL_SIZE_ZERO = 3,    /* the size is 0 */
     POOL_NO_ROOM = 4,      /* no room by the grant rule */
     POOL_NOT_HELD = 5,     /* the offset is not the start of a held payload */
@@ -102,7 +109,8 @@ uint64_t pool_inspect(const unsigned char *pool, size_t n);
 /* Grants a payload of at least `size` bytes; they are not cleared. Value: its offset. Refused: 1, 2, 3, 4. */
 uint64_t pool_take(unsigned char *pool, size_t n, uint32_t size);
 
-/* Takes the payload at `offset` back. Value: how many bytes it had. Refused: 1, 2, 5. */
+/* Takes the payload at `offset` back. Value: how many bytes it had. Refused: 1, 2, 5.
+   A small block then waits in the list of its size; but as long as the block at E is free, it leaves its list and joins the remainder. */
 uint64_t pool_give_back(unsigned char *pool, size_t n, uint32_t offset);
 
 /* Asks about the payload at `offset`. Value: how many bytes it has. Refused: 1, 2, 5. */
@@ -113,6 +121,12 @@ uint64_t pool_ask(const unsigned char *pool, size_t n, uint32_t offset);
    its bytes again. One that began in layout 1 differs at most in words that layout 1 leaves unused: +16 to +60 of a free large block that
    comes first in its list (docs/FORMAT.md). */
 uint64_t pool_convert(unsigned char *pool, size_t n, uint32_t old);
+
+/* Brings in a pool that was stored by version 0.5 or before: as long as the block at E is free, it leaves its list and joins the remainder.
+   Value: how many blocks went home. Refused: 1, and 2 if the pool was not sound for version 0.5 either.
+   Held payloads stay as they are and where they are, and so does the order of every list. A pool that is sound already answers 0, and no byte of
+   it changes: a second time does no harm. Both layouts. */
+uint64_t pool_bring_in(unsigned char *pool, size_t n);
 
 /* The figures' places in the list. */
 enum {

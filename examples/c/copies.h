@@ -11,6 +11,9 @@
    A move to the other layout (pool_convert) is such a change too. Move back before older firmware comes on the board: it refuses the copy of
    layout 2, and would believe the other one, with the records of before.
 
+   After an update from version 0.5 or before, call bring_in_last(&memory, scratch) before the first believed(&memory): inspection may refuse the
+   copy that was completed last, since it has free blocks at E, and the other one has the records of before. A second time does no harm.
+
    After a reset believed(&memory) has pool and bank as they were before the change or as they were after it. It is NULL in memory that was
    never laid out: call lay_out_first then, with the layout's number, before the first begin. Where stores wait in a cache, `in_order` has to push them out too. */
 #ifndef COPIES_H
@@ -42,8 +45,9 @@ static inline struct copy *believed(struct copies *c) {
     return last;
 }
 
-static inline struct copy *begin(struct copies *c) {
-    struct copy *from = believed(c), *to = &c->copy[from == c->copy];
+/* The other copy, with what this one has. */
+static inline struct copy *begin_with(struct copies *c, struct copy *from) {
+    struct copy *to = &c->copy[from == c->copy];
     to->completed = 0;
     in_order();
     memcpy(to->bank, from->bank, sizeof to->bank);
@@ -51,9 +55,26 @@ static inline struct copy *begin(struct copies *c) {
     return to;
 }
 
+static inline struct copy *begin(struct copies *c) { return begin_with(c, believed(c)); }
+
 static inline void complete(struct copies *c, struct copy *changed) {
     in_order();
     changed->completed = c->copy[changed == c->copy].completed + 1;
+}
+
+/* Of the copies that were completed and that can be brought in, the one that was completed last is brought in, as a change of its own, if it has
+   to be. Which can be is tried in `scratch`, any other memory, so that no copy is lost for one that is damaged. */
+static inline void bring_in_last(struct copies *c, unsigned char scratch[POOL_BYTES]) {
+    struct copy *last = NULL, *change;
+    for (struct copy *one = c->copy; one < c->copy + 2; one++) {
+        memcpy(scratch, one->pool, POOL_BYTES);
+        if (one->completed && !pool_refusal(pool_bring_in(scratch, POOL_BYTES)) && (!last || last->completed < one->completed))
+            last = one;
+    }
+    if (!last || last == believed(c)) return;
+    change = begin_with(c, last);
+    pool_bring_in(change->pool, sizeof change->pool);
+    complete(c, change);
 }
 
 /* Once in a memory's life, where believed() is NULL and nothing is to be saved. */

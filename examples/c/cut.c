@@ -12,6 +12,8 @@
 static struct copies memory, seen;          /* the memory that keeps its bytes, and what stood there after the last instruction */
 static struct copy before, after;
 static unsigned cuts, old_ones, new_ones, wrong, lone_cuts, lone_refused;
+static int updated; /* from version 0.5: the console brings in before it believes */
+static unsigned update_cuts, latest_ones;
 
 static int same(const struct copy *a, const struct copy *b) {
     return !memcmp(a->bank, b->bank, sizeof a->bank) && !memcmp(a->pool, b->pool, sizeof a->pool);
@@ -20,9 +22,16 @@ static int same(const struct copy *a, const struct copy *b) {
 /* What a console does after a reset: on a copy of the memory, since the change goes on here. */
 static void after_a_reset(void) {
     static struct copies found;
+    static unsigned char scratch[POOL_BYTES];
     struct copy *copy;
     memcpy(&found, &memory, sizeof found);
+    if (updated) bring_in_last(&found, scratch);
     copy = believed(&found);
+    if (updated) {
+        update_cuts++;
+        if (copy && same(copy, &after)) latest_ones++;
+        return;
+    }
     cuts++;
     if (copy && same(copy, &before)) old_ones++;
     else if (copy && same(copy, &after)) new_ones++;
@@ -80,6 +89,42 @@ static void make(struct copy *copy, int i) {
     }
 }
 
+/* A small give-back as version 0.5 did it: the block comes to the front of its bin, and stays there. */
+static void give_back_as_before(unsigned char *pool, uint32_t offset) {
+    uint32_t start = offset - 4, size = (pool[start] + 256u * pool[start + 1]) / 4, bin = 24 + size;
+    uint32_t free_word = pool[0] + 256u * pool[1] + size;
+    pool[start] -= 1; /* held no more */
+    memcpy(pool + offset, pool + bin, 4);
+    memset(pool + bin, 0, 8);
+    pool[bin] = (unsigned char)start, pool[bin + 1] = (unsigned char)(start >> 8);
+    pool[0] = (unsigned char)free_word, pool[1] = (unsigned char)(free_word >> 8);
+}
+
+/* Version 0.5 gave three short records back, and then the update came. The copy that it completed last is brought in, cut off after every store:
+   after a reset it is brought in once more, and has its latest records, never those of the other copy. */
+static void update(void) {
+    static unsigned char scratch[POOL_BYTES];
+    struct copy *last = begin(&memory);
+    uint32_t offset[4];
+    for (int i = 0; i < 4; i++) offset[i] = pool_value(pool_take(last->pool, sizeof last->pool, i == 1 ? 60 : 12));
+    complete(&memory, last);
+    for (int i = 1; i < 4; i++) give_back_as_before(last->pool, offset[i]);
+    if (pool_refusal(pool_inspect(last->pool, sizeof last->pool)) != POOL_NOT_SOUND || !believed(&memory)) wrong++;
+
+    memcpy(&after, last, sizeof after);
+    if (pool_bring_in(after.pool, sizeof after.pool) != 3) wrong++;
+    memcpy(&seen, &memory, sizeof seen);
+    updated = 1;
+    TRAP_ON;
+    bring_in_last(&memory, scratch);
+    TRAP_OFF;
+    updated = 0;
+    if (!same(believed(&memory), &after)) wrong++;
+    memcpy(&seen, &memory, sizeof seen);
+    bring_in_last(&memory, scratch); /* twice is once */
+    if (memcmp(&seen, &memory, sizeof seen)) wrong++;
+}
+
 static void run(uint32_t layout) {
     memset(&memory, 0, sizeof memory);
     memset(&lone, 0, sizeof lone);
@@ -104,6 +149,7 @@ static void run(uint32_t layout) {
         make(&lone, i);
         TRAP_OFF;
     }
+    update();
 }
 
 int main(void) {
@@ -112,9 +158,10 @@ int main(void) {
     run(POOL_LAYOUT_2);
     printf("two copies on each layout, %d changes cut off after each of %u stores: %u times the old records, %u times the new ones, %u times neither\n",
         2 * (int)CHANGES, cuts, old_ones, new_ones, wrong);
+    printf("two copies that version 0.5 left, brought in and cut off after each of %u stores: %u times the latest records\n", update_cuts, latest_ones);
     printf("one pool and bank alone, cut off after each of %u stores: %u times every later call refuses it\n", lone_cuts, lone_refused);
     /* every change has been seen before and after its last store, and the lone copy is there to show that there is something to lose */
-    int good = !wrong && old_ones && new_ones >= 2 * CHANGES && lone_refused;
+    int good = !wrong && old_ones && new_ones >= 2 * CHANGES && update_cuts && latest_ones == update_cuts && lone_refused;
     printf("%d passed, %d failed\n", good, !good);
     return !good;
 }

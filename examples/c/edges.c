@@ -6,8 +6,8 @@
 #include "pool.h"
 
 enum { ROOM = 65544, AROUND = 16, LIST = 56 };
-enum call { LAY_OUT, CONVERT, INSPECT, TAKE, GIVE_BACK, ASK, FIGURES, CLASS_COUNT };
-static const char *const NAMES[] = {"lay_out", "convert", "inspect", "take", "give_back", "ask", "figures", "class_count"};
+enum call { LAY_OUT, CONVERT, BRING_IN, INSPECT, TAKE, GIVE_BACK, ASK, FIGURES, CLASS_COUNT };
+static const char *const NAMES[] = {"lay_out", "convert", "bring_in", "inspect", "take", "give_back", "ask", "figures", "class_count"};
 
 static unsigned char bytes[AROUND + ROOM + AROUND], kept[sizeof bytes];
 static uint32_t list[LIST + 4], kept_list[LIST + 4];
@@ -30,6 +30,7 @@ static uint64_t make(enum call call, size_t n, uint32_t number, size_t count) {
     switch (call) {
     case LAY_OUT: return pool_lay_out(at, n, number);
     case CONVERT: return pool_convert(at, n, number);
+    case BRING_IN: return pool_bring_in(at, n);
     case INSPECT: return pool_inspect(at, n);
     case TAKE: return pool_take(at, n, number);
     case GIVE_BACK: return pool_give_back(at, n, number);
@@ -98,6 +99,8 @@ static void lengths(void) {
         done(CONVERT, n, layout, 0, n);
         refused(CONVERT, n, layout, 0, POOL_OTHER_LAYOUT);
         done(CONVERT, n, other, 0, n);
+        done(BRING_IN, n, 0, 0, 0);
+        expect(!memcmp(kept, bytes, sizeof bytes), "a fresh pool is brought in, and no byte changes");
         done(INSPECT, n, 0, 0, n);
         done(FIGURES, n, 0, 7, 0);
         largest = n == 176 ? 0 : n - 180; /* the remainder less the 8 bytes that it keeps, less 4 for the head */
@@ -107,9 +110,10 @@ static void lengths(void) {
     }
 }
 
-/* A pool that is not sound is not moved either: 2 is asked before 13, but after 8. */
+/* A pool that is not sound, by the rule of before either, is not moved: 2 is asked before 13, but after 8. And it is not brought in. */
 static void not_sound(void) {
     refused(INSPECT, 1024, 0, 0, POOL_NOT_SOUND);
+    refused(BRING_IN, 1024, 0, 0, POOL_NOT_SOUND);
     refused(CONVERT, 1024, 3, 0, POOL_NO_LAYOUT);
     refused(CONVERT, 1024, POOL_LAYOUT_1, 0, POOL_NOT_SOUND);
     refused(CONVERT, 1024, POOL_LAYOUT_2, 0, POOL_NOT_SOUND);
@@ -270,12 +274,13 @@ static void take_all(uint32_t n, const uint32_t (*blocks)[2], size_t count) {
     }
 }
 
-/* Free blocks of 80, 96 (two of them) and 128 bytes, and two small ones, with held ones in between. */
+/* Free blocks of 80, 96 (two of them) and 128 bytes, and two small ones, with held ones in between and at E. */
 static void moves(void) {
     static const uint32_t BLOCKS[][2] = {{92, 172}, {68, 268}, {76, 340}, {68, 420},  {124, 492}, {68, 620},
-                                         {92, 692}, {68, 788}, {12, 1012}, {60, 948}, {12, 932}};
+                                         {92, 692}, {68, 788}, {12, 1012}, {60, 948}, {12, 932}, {4, 924}};
     static const uint32_t BACK[][2] = {{172, 92}, {692, 92}, {340, 76}, {492, 124}, {1012, 12}, {932, 12}};
-    static const uint32_t HELD[][2] = {{268, 68}, {420, 68}, {620, 68}, {788, 68}, {948, 60}}, FIGURES_THEN[7] = {5, 352, 2, 4, 72, 500, 124};
+    static const uint32_t HELD[][2] = {{268, 68}, {420, 68}, {620, 68}, {788, 68}, {948, 60}, {924, 4}};
+    static const uint32_t FIGURES_THEN[7] = {6, 360, 2, 4, 64, 492, 124};
     static const struct bin BINS[] = {{336, 80}, {168, 96}, {488, 128}}, LEFT[] = {{336, 80}, {488, 128}};
     size_t i;
     done(LAY_OUT, 1024, layout, 0, 1024);
@@ -285,7 +290,7 @@ static void moves(void) {
     done(CONVERT, 1024, layout, 0, 1024);
     for (i = 0; i < sizeof HELD / sizeof *HELD; i++) done(ASK, 1024, HELD[i][0], 0, HELD[i][1]);
     for (i = 0; i < sizeof BACK / sizeof *BACK; i++) refused(ASK, 1024, BACK[i][0], 0, POOL_NOT_HELD);
-    done(FIGURES, 1024, 0, 7, 5);
+    done(FIGURES, 1024, 0, 7, 6);
     expect(!memcmp(list, FIGURES_THEN, sizeof FIGURES_THEN), "the seven figures of a pool that was moved");
     done(TAKE, 1024, 92, 0, 692); /* the second of its bin, as in the old layout */
     done(TAKE, 1024, 92, 0, 172);
@@ -306,6 +311,86 @@ static void all_levels(void) {
     there_and_back(N, BINS, 5);
 }
 
+enum { FREE_WORD = 0, REST_END = 24, BIN_8 = 32, BIN_16 = 40, BIN_24 = 48 };
+
+/* A small give-back as version 0.5 did it: the block comes to the front of its bin, and stays there. */
+static void give_back_as_before(uint32_t offset) {
+    uint32_t start = offset - 4, size = (uint32_t)word(start) / 4;
+    put(pool, start, 4 * size + 2);
+    put(pool, offset, (uint32_t)word(24 + size));
+    put(pool, 24 + size, start);
+    put(pool, FREE_WORD, (uint32_t)word(FREE_WORD) + size);
+}
+
+/* Small blocks of 16, 8, 16, 24 and 16 bytes, from the pool's end down to E at 944, and a free large one. */
+static void short_records(void) {
+    static const uint32_t BLOCKS[][2] = {{12, 1012}, {4, 1004}, {12, 988}, {20, 964}, {12, 948}, {100, 172}, {68, 276}};
+    done(LAY_OUT, 1024, layout, 0, 1024);
+    take_all(1024, BLOCKS, sizeof BLOCKS / sizeof *BLOCKS);
+    done(GIVE_BACK, 1024, 172, 0, 100);
+}
+
+/* A pool that version 0.5 stored, with three free blocks at E and one behind a held block: every call refuses it, until it is brought in. */
+static void brought_in(void) {
+    static const uint32_t FIGURES_THEN[7] = {2, 80, 1, 1, 656, 772, 644};
+    int call;
+    short_records();
+    give_back_as_before(988);
+    give_back_as_before(1012);
+    give_back_as_before(948);
+    give_back_as_before(964);
+    for (call = INSPECT; call <= CLASS_COUNT; call++) refused((enum call)call, 1024, 276, call == FIGURES ? 7 : 53, POOL_NOT_SOUND);
+    refused(CONVERT, 1024, 3, 0, POOL_NO_LAYOUT);
+    refused(CONVERT, 1024, layout, 0, POOL_NOT_SOUND);
+    refused(CONVERT, 1024, other, 0, POOL_NOT_SOUND);
+    pool[FREE_WORD] ^= 8; /* one wrong word, and it is no pool of version 0.5 either */
+    not_sound();
+    pool[FREE_WORD] ^= 8;
+
+    memcpy(image, pool, 1024);
+    put(image, REST_END, 1000);
+    put(image, 344, 4 * (1000 - 344) + 2); /* the remainder's head */
+    put(image, BIN_16, 1008);              /* before it stood 944, and behind it 984 */
+    put(image, 1012, 0);
+    put(image, BIN_24, 0);
+    done(BRING_IN, 1024, 0, 0, 3);
+    expect(!memcmp(pool, image, 1024), "brought in, the header, the lists and the remainder's head are new, and every other byte stays");
+    done(BRING_IN, 1024, 0, 0, 0);
+    expect(!memcmp(pool, image, 1024), "twice is once");
+    done(INSPECT, 1024, 0, 0, 1024);
+    done(FIGURES, 1024, 0, 7, 2);
+    expect(!memcmp(list, FIGURES_THEN, sizeof FIGURES_THEN), "the seven figures of a pool that was brought in");
+    done(TAKE, 1024, 12, 0, 1012);
+    done(TAKE, 1024, 644, 0, 348);
+}
+
+/* A give-back at E takes the free blocks behind it home too, and no byte of theirs changes: not even the head of the one that is given back. */
+static void goes_home(void) {
+    short_records();
+    done(GIVE_BACK, 1024, 988, 0, 12);
+    done(GIVE_BACK, 1024, 1012, 0, 12);
+    done(GIVE_BACK, 1024, 964, 0, 20);
+    memcpy(image, pool, 1024);
+    put(image, FREE_WORD, (uint32_t)word(FREE_WORD) + 16);
+    put(image, REST_END, 1000);
+    put(image, 344, 4 * (1000 - 344) + 2);
+    put(image, BIN_24, 0);
+    put(image, 1012, 0); /* 984 stood there */
+    done(GIVE_BACK, 1024, 948, 0, 12);
+    expect(!memcmp(pool, image, 1024), "at E three blocks go home, up to the held one");
+    refused(GIVE_BACK, 1024, 948, 0, POOL_NOT_HELD);
+    put(image, FREE_WORD, (uint32_t)word(FREE_WORD) + 8);
+    put(image, REST_END, 1024);
+    put(image, 344, 4 * (1024 - 344) + 2);
+    put(image, BIN_16, 0);
+    done(GIVE_BACK, 1024, 1004, 0, 4);
+    expect(!memcmp(pool, image, 1024), "the last one takes the block behind it home, and E is n");
+    expect(word(BIN_8) == 0, "and never stood in its bin");
+    done(INSPECT, 1024, 0, 0, 1024);
+    done(BRING_IN, 1024, 0, 0, 0);
+    expect(!memcmp(pool, image, 1024), "a sound pool is brought in, and no byte changes");
+}
+
 int main(void) {
     int round;
     for (round = 0; round < 4; round++) {
@@ -321,6 +406,8 @@ int main(void) {
         levels();
         moves();
         all_levels();
+        brought_in();
+        goes_home();
     }
     printf("%u passed, %u failed\n", passed, failed);
     return failed != 0;

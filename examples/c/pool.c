@@ -1,5 +1,5 @@
-/* The pool alone, without the bank: two texts are kept in it. Lay out, take, write, give back, give back once too often, and move to the other
-   layout as an update of the firmware does. */
+/* The pool alone, without the bank: two texts are kept in it. Lay out, take, write, give back, give back once too often; and move to the other
+   layout and bring in, as an update of the firmware does. */
 #include <stdio.h>
 #include <string.h>
 
@@ -59,6 +59,7 @@ int main(void) {
     say("ask about the swell", pool_ask(pool, sizeof pool, swell));
     printf("the swell has: %s\n", (char *)pool + swell);
     say("move back from layout 2", pool_convert(pool, sizeof pool, POOL_LAYOUT_2));
+    say("bring in", pool_bring_in(pool, sizeof pool)); /* no block goes home: only version 0.5 left some */
 
     say("figures", pool_figures(pool, sizeof pool, figures, POOL_FIGURES));
     printf("held bytes %u, free word %u, largest grant %u\n", (unsigned)figures[POOL_HELD_BYTES], (unsigned)figures[POOL_FREE_WORD],

@@ -1,5 +1,5 @@
-"""The two example pools of docs/FORMAT.md: the same calls on each layout, made by probe, as hex and with each governed word named; and what
-differs where the second is moved to the first one's layout.
+"""The two example pools of docs/FORMAT.md: the same calls on each layout, made by probe, as hex and with each governed word named; what
+differs where the second is moved to the first one's layout; and what is written where such a pool is brought in.
 
   python3 examples/format/page.py           writes what stands between the page's markers
   python3 examples/format/page.py --check   holds the page to it; the last line is `N passed, M failed`
@@ -27,12 +27,15 @@ FALSE, BLOCKS, LEVELS = 96, 168, 13
 HELD, BELOW_NOT_FREE = 1, 2
 
 
-def made(layout, fill, *moves):
+def made(layout, fill, *moves, calls=CALLS):
     """The pool's bytes after the calls, over a buffer of one byte, and after the moves, each from a layout to the other one."""
-    calls = [("M", layout), *CALLS, *(("Y", old) for old in moves)]
-    commands = [main.image_command(bytes([fill]) * LENGTH)]
-    commands += [letter.encode() + number.to_bytes(4, "little") for letter, number in calls]
-    lines = main.ask_probe(commands + [b"N", b"D"])
+    calls = [("M", layout), *calls, *(("Y", old) for old in moves)]
+    return after(bytes([fill]) * LENGTH, [letter.encode() + number.to_bytes(4, "little") for letter, number in calls])
+
+
+def after(data, commands):
+    """What probe makes of these bytes."""
+    lines = main.ask_probe([main.image_command(data), *commands, b"N", b"D"])
     refused = [line for line in lines if line.split()[1] != "0"]
     if refused:
         sys.exit(f"examples/format/page.py: probe refuses a call: {refused[0]}")
@@ -205,8 +208,50 @@ def left_section():
     return "\n".join(out)
 
 
+# The block that version 0.5 gave back and left at E: 8 bytes, and 8 free ones of the same bin behind it.
+AT_EDGE = 496
+
+
+def stored(layout, fill):
+    """The pool as version 0.5 leaves it: the block comes to the front of its bin, and stays there."""
+    data = bytearray(made(layout, fill))
+    data[AT_EDGE] &= 0xFF - HELD
+    data[AT_EDGE + 4:AT_EDGE + 8] = data[32:36]
+    data[32:36] = AT_EDGE.to_bytes(4, "little")
+    data[0] += 8  # the free word
+    return bytes(data)
+
+
+def brought_words():
+    """The words that are written where that pool is brought in; and whether they are all that is."""
+    data = stored(1, FILL)
+    brought = after(data, [b"H"])
+    new = [word for word in Reader(brought).words if data[word[0]:word[0] + word[1]] != brought[word[0]:word[0] + word[1]]]
+    known = {at for start, width, _ in new for at in range(start, start + width)}
+    return data, brought, new, all(data[at] == brought[at] or at in known for at in range(LENGTH))
+
+
+def brought_section():
+    data, brought, new, _ = brought_words()
+    out = ["| Offset | As version 0.5 left it | Brought in | What it is then |", "|---:|---|---|---|"]
+    out += [f"| {start} | `{data[start:start + width].hex(' ')}` | `{brought[start:start + width].hex(' ')}` | {what} |" for start, width, what in new]
+    return "\n".join(out)
+
+
+def given_back_meets(layout):
+    """Whether that pool, brought in, is the one that a give-back of the same block leaves now, but for the inside of the remainder."""
+    brought, now = after(stored(layout, FILL), [b"H"]), made(layout, FILL, calls=[*CALLS, ("G", AT_EDGE + 4)])
+    head = int.from_bytes(now[16:24], "little") + 4
+    end = int.from_bytes(now[24:32], "little")
+    return brought[:head] == now[:head] and brought[end:] == now[end:]
+
+
+def is_refused(data):
+    return main.ask_probe([main.image_command(data), b"N"])[1] == "N 2 0"
+
+
 # What the page shows, by the name in its markers.
-SECTIONS = {"layout 1": lambda: pool_section(1), "layout 2": lambda: pool_section(2), "moved": left_section}
+SECTIONS = {"layout 1": lambda: pool_section(1), "layout 2": lambda: pool_section(2), "moved": left_section, "brought in": brought_section}
 
 
 def governed(layout):
@@ -237,6 +282,13 @@ def asked(text):
     yield left_words()[1], "the second pool, moved to layout 1, is the first one but for the words that are shown"
     yield made(2, FILL, 2, 1) == made(2, FILL), "the second pool, there and back, is the same"
     yield made(1, FILL, 1, 2) == made(2, FILL, 2), "the first pool, there and back, is the second one moved to layout 1"
+    yield brought_words()[3], "where a pool is brought in, no other words are written than those that are shown"
+    for layout in (1, 2):
+        old = stored(layout, FILL)
+        yield is_refused(old), f"the pool of version 0.5 is refused with 2 until it is brought in, in layout {layout}"
+        yield after(old, [b"H", b"H"]) == after(old, [b"H"]), f"twice is once, in layout {layout}"
+        yield after(made(layout, FILL), [b"H"]) == made(layout, FILL), f"a sound pool is left as it is, in layout {layout}"
+        yield given_back_meets(layout), f"brought in, it is what a give-back leaves now, in layout {layout}"
 
 
 def check(text):

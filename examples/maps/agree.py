@@ -3,7 +3,8 @@ banks exactly where probe refuses a recall. And looks that no link runs through 
 pistons no words stand on others.
 
 The images are those of the example tapes, in their layout and in the other one, each damaged many times at a place that a fixed seed
-chooses; all go through one probe run.
+chooses; all go through one probe run. To each comes one as version 0.5 would have left it, with free blocks at E: there the drawing says how
+many go home exactly where probe brings the pool in.
 Sound ones are also counted: the seven figures are those of the blocks that are drawn. The banks are given to sound pools, some of whose
 payloads begin as records do, and to a few damaged ones. The last line is `N passed, M failed`.
 """
@@ -20,11 +21,12 @@ sys.path.insert(0, os.path.join(HERE, "..", "..", "tools", "drawing"))
 import main  # noqa: E402
 from bank import PISTONS, REFUSED, Bank  # noqa: E402
 from pistons import RADIUS, BankPicture  # noqa: E402
-from pool import CHAIN, LEVEL, Pool  # noqa: E402
+from pool import CHAIN, FREE_WORD, LEVEL, SMALL_BINS, SMALL_NEXT, Pool  # noqa: E402
 from svg import HEIGHT, Picture, width_of  # noqa: E402
 
 TAPES = ["maps/bins", "tapes/worked", "tapes/scattering", "tapes/joins", "tapes/small", "maps/levels"]
 TURNS = 80
+TURNS_AT_EDGE = 20
 BANKS = 150
 WORDS = [0, 1, 2, 3, 13, 72, 96, 168, 2**31, 2**32 - 1]
 
@@ -55,6 +57,21 @@ def index_damaged(data, chance):
     old = int.from_bytes(data[at:at + 4], "little")
     value = chance.choice([0, 1, 13, old + 1, old - 1, old + 8, old - 8, chance.choice(starts) - start])
     data[at:at + 4] = (value % 2**32).to_bytes(4, "little")
+    return bytes(data)
+
+
+def stored_before(image, chance):
+    """The pool after version 0.5 has given some small blocks back, that at E among them: each comes to the front of its bin, and stays there.
+    The same pool where E has no held block."""
+    data, pool = bytearray(image), Pool(image)
+    held = [block for block in pool.blocks if block.kind == "held" and block.start >= pool.end]
+    for block in held[:1] + [block for block in held[1:] if chance.randrange(2)]:
+        data[block.start] &= 0xFE
+        bin_word = SMALL_BINS + block.size
+        data[block.start + SMALL_NEXT:block.start + SMALL_NEXT + 4] = data[bin_word:bin_word + 4]
+        data[bin_word:bin_word + 4] = block.start.to_bytes(4, "little")
+        free = int.from_bytes(data[FREE_WORD:FREE_WORD + 4], "little") + block.size
+        data[FREE_WORD:FREE_WORD + 4] = free.to_bytes(4, "little")
     return bytes(data)
 
 
@@ -107,8 +124,11 @@ def crosses(drawn):
                 break
 
 
-def agrees(image, inspected, figures):
+def agrees(image, inspected, figures, brought):
     pool = Pool(image)
+    wanted = f"H 0 {pool.to_bring_in}" if pool.to_bring_in or not pool.faults else "H 2 0"
+    if brought != wanted:
+        return False
     drawn = Picture(pool).draw("image", 0 if not pool.faults else 2, [0] * 7)  # it can be drawn whatever it is
     if any(crosses(drawn)):
         return False
@@ -125,20 +145,27 @@ def run():
 
 
 def run_pools(images, chance):
+    at_edge = random.Random(2)
+    stored = [stored_before(image, at_edge) for image in images]
     images = images + [damaged(image, chance) for image in images for _ in range(TURNS)]
-    commands = [command for image in images for command in (main.image_command(image), b"N", b"S")]
+    images += stored + [damaged(image, at_edge) for image in stored for _ in range(TURNS_AT_EDGE)]
+    commands = [command for image in images for command in (main.image_command(image), b"N", b"S", b"H")]
     lines = main.ask_probe(commands)
-    good = sound = 0
+    good = sound = to_bring_in = 0
     for i, image in enumerate(images):
-        sound += lines[3 * i + 1].split()[1] == "0"
-        if agrees(image, lines[3 * i + 1], lines[3 * i + 2]):
+        _, inspected, figures, brought = lines[4 * i:4 * i + 4]
+        sound += inspected.split()[1] == "0"
+        to_bring_in += brought.split()[2] != "0"
+        if agrees(image, inspected, figures, brought):
             good += 1
         else:
-            print(f"failed: image {i}: probe says {lines[3 * i + 1]}, the drawing {Pool(image).faults[:1]}")
+            print(f"failed: image {i}: probe says {inspected} and {brought}, the drawing {Pool(image).faults[:1]}")
     # a test that met only one kind of pool would say nothing
-    both = 50 < sound < len(images) - 50
-    print(f"{sound} sound images and {len(images) - sound} others: {good + both} passed, {len(images) - good + (not both)} failed")
-    return good == len(images) and both
+    others = len(images) - sound - to_bring_in
+    all_met = min(sound, to_bring_in, others) > 50
+    print(f"{sound} sound images, {to_bring_in} that have to be brought in and {others} others: {good + all_met} passed, "
+          f"{len(images) - good + (not all_met)} failed")
+    return good == len(images) and all_met
 
 
 # Banks

@@ -13,7 +13,8 @@
 //! ```
 //!
 //! A pool has one of two layouts, and every call serves both with the same answers: [`Layout`] says which one to lay out, and
-//! [`Pool::convert`] moves a pool from one to the other.
+//! [`Pool::convert`] moves a pool from one to the other. A pool that version 0.5 or an older one has stored is brought in once, by
+//! [`Pool::bring_in`].
 //! Above the pool stands [`Bank`], a bank of 32 pistons, each empty or naming one [`Record`] of the pool.
 //!
 //! Every call reads the pool's bytes first, and a refusal changes none of them. What each answers is proved of the library
@@ -43,6 +44,9 @@ pub const VERSION: &str = env!("CARGO_PKG_VERSION");
 
 /// How many size classes there are.
 pub const CLASSES: usize = 53;
+
+/// No block has fewer bytes.
+const LEAST_BLOCK: usize = 8;
 
 /// The seven figures of a pool. Held bytes + free word + 172 is the pool's length.
 #[derive(Clone, Copy, Debug, PartialEq, Eq)]
@@ -113,6 +117,31 @@ impl<'a> Pool<'a> {
         Ok(Pool { bytes })
     }
 
+    /// The pool that the buffer has, of either layout, where version 0.5 or an older one may have stored it; and how many blocks went home.
+    /// These versions left free small blocks where the remainder ends, and [`Pool::open`] refuses that. Here they join the remainder. Held
+    /// payloads stay as they are and where they are, so every offset means what it meant, a [`Bank`]'s too. A pool that `open` takes is taken
+    /// with 0, and none of its bytes changes.
+    /// Refused: [`NotAllowed`](Refusal::NotAllowed), and [`NotSound`](Refusal::NotSound) if it was not sound for these versions either.
+    ///
+    /// ```
+    /// # use icewimple_pool::{Layout, Pool, Refusal};
+    /// # let mut stored = [0; 1024];
+    /// # Pool::lay_out(&mut stored, Layout::One)?;
+    /// // once, after the update
+    /// let (mut pool, went_home) = Pool::bring_in(&mut stored)?;
+    /// # assert_eq!(went_home, 0);
+    /// # pool.take(100)?;
+    /// # Ok::<(), Refusal>(())
+    /// ```
+    pub fn bring_in(bytes: &'a mut [u8]) -> Result<(Pool<'a>, u32), Refusal> {
+        let result = raw::bring_in(bytes);
+        let went_home = answer(result, &[Refusal::NotAllowed, Refusal::NotSound])?;
+        if went_home as usize > bytes.len() / LEAST_BLOCK {
+            return Err(Refusal::Unforeseen(result));
+        }
+        Ok((Pool { bytes }, went_home))
+    }
+
     /// The pool's bytes.
     pub fn bytes(&self) -> &[u8] {
         self.bytes
@@ -135,7 +164,7 @@ impl<'a> Pool<'a> {
         Ok(offset)
     }
 
-    /// Takes the payload at `offset` back; answers how many bytes it had.
+    /// Takes the payload at `offset` back; answers how many bytes it had. A free small block where the remainder ends joins it.
     /// Refused: [`NotHeld`](Refusal::NotHeld).
     pub fn give_back(&mut self, offset: u32) -> Result<u32, Refusal> {
         let result = raw::give_back(self.bytes, offset);

@@ -8,6 +8,7 @@ mod c {
         pub fn pool_give_back(pool: *mut u8, n: usize, offset: u32) -> u64;
         pub fn pool_ask(pool: *const u8, n: usize, offset: u32) -> u64;
         pub fn pool_convert(pool: *mut u8, n: usize, old: u32) -> u64;
+        pub fn pool_bring_in(pool: *mut u8, n: usize) -> u64;
         pub fn pool_figures(pool: *const u8, n: usize, figures: *mut u32, count: usize) -> u64;
         pub fn pool_class_count(pool: *const u8, n: usize, counts: *mut u32, count: usize) -> u64;
         pub fn bank_set(
@@ -57,6 +58,11 @@ pub fn ask(pool: &[u8], offset: u32) -> u64 {
 pub fn convert(pool: &mut [u8], old: u32) -> u64 {
     // SAFETY: pointer and length are those of one exclusive slice.
     unsafe { c::pool_convert(pool.as_mut_ptr(), pool.len(), old) }
+}
+
+pub fn bring_in(pool: &mut [u8]) -> u64 {
+    // SAFETY: pointer and length are those of one exclusive slice.
+    unsafe { c::pool_bring_in(pool.as_mut_ptr(), pool.len()) }
 }
 
 pub fn figures(pool: &[u8], figures: &mut [u32]) -> u64 {

@@ -7,7 +7,8 @@ use core::fmt;
 pub enum Refusal {
     /// 1: the length is not a multiple of 8 from 176 to 65,536.
     NotAllowed,
-    /// 2: the pool is not sound.
+    /// 2: the pool is not sound. Or version 0.5 or an older one has stored it: [`Pool::bring_in`](crate::Pool::bring_in) takes such a pool, and
+    /// refuses one that was never sound.
     NotSound,
     /// 3: the size is 0.
     SizeZero,

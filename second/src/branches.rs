@@ -32,7 +32,7 @@ const HEIGHTS: [&str; 6] = ["1", "2", "3 or 4", "5 to 8", "9 to 12", "13"];
 
 /// Every branch in the order of the table; `@` stands for each of the four places, `~` for each
 /// place of an offset, `#` for each height.
-const NAMES: [&str; 88] = [
+const NAMES: [&str; 97] = [
     "lay out: the first pool",
     "lay out: over an old pool",
     "lay out: refused 1, no pool yet",
@@ -79,6 +79,15 @@ const NAMES: [&str; 88] = [
     "give back: refused 5, ~",
     "give back small: into an empty bin",
     "give back small: into a bin with blocks",
+    "give back small: at E, alone, a held block above",
+    "give back small: at E, alone, no block above",
+    "give back small: at E, with one above",
+    "give back small: at E, with several above, up to a held block",
+    "give back small: at E, with several above, up to n",
+    "give back small: at E, a bin is emptied",
+    "give back small: at E, a bin's first goes and another becomes first",
+    "give back small: at E, blocks go from behind a bin's first",
+    "give back small: at E, a bin keeps all its blocks",
     "give back large: no neighbour free",
     "give back large: below free",
     "give back large: above free",
@@ -344,6 +353,9 @@ impl Counts {
             }
         };
         let start = offset as usize - 4;
+        if start == before.remainder_end() {
+            return self.homes(before, after);
+        }
         if let Some(block) = before.high.iter().find(|block| block.start == start) {
             let empty = !before.small_bins.contains_key(&block.size);
             let bin = if empty { "an empty bin" } else { "a bin with blocks" };
@@ -354,6 +366,30 @@ impl Counts {
         let above = before.low.get(index + 1).copied().filter(|block| !block.held);
         self.neighbours(&before.large_bins, below, above);
         self.run_goes(before, after, index, below, above);
+    }
+
+    /// A small block that stood at E is home, and those above it that were free.
+    fn homes(&mut self, before: &State, after: &State) {
+        let above = before.high.len() - after.high.len() - 1;
+        self.add(match (above, after.high.is_empty()) {
+            (0, false) => "give back small: at E, alone, a held block above",
+            (0, true) => "give back small: at E, alone, no block above",
+            (1, _) => "give back small: at E, with one above",
+            (_, false) => "give back small: at E, with several above, up to a held block",
+            (_, true) => "give back small: at E, with several above, up to n",
+        });
+        for (size, starts) in &before.small_bins {
+            self.add(match after.small_bins.get(size) {
+                None => "give back small: at E, a bin is emptied",
+                Some(stay) if stay[0] != starts[0] => {
+                    "give back small: at E, a bin's first goes and another becomes first"
+                }
+                Some(stay) if stay.len() < starts.len() => {
+                    "give back small: at E, blocks go from behind a bin's first"
+                }
+                Some(_) => "give back small: at E, a bin keeps all its blocks",
+            });
+        }
     }
 
     /// What became of the index: bins that opened, bins that were emptied, other first blocks.

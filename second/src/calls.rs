@@ -23,6 +23,14 @@ pub fn state_of(pool: &[u8]) -> Result<State, Refusal> {
     layout::read(pool).map_err(|_| Refusal::NotSound)
 }
 
+/// By the rule before request 2026-06, which bringing in goes by alone.
+pub fn old_state_of(pool: &[u8]) -> Result<State, Refusal> {
+    if !allowed(pool.len()) {
+        return Err(Refusal::NotAllowed);
+    }
+    layout::read_old(pool).map_err(|_| Refusal::NotSound)
+}
+
 /// By the layout's number.
 pub fn lay_out(pool: &mut Vec<u8>, number: u32) -> Answer {
     if !allowed(pool.len()) {
@@ -42,6 +50,13 @@ pub fn convert(pool: &mut Vec<u8>, old: u32) -> Answer {
     let after = rules::convert(&state_of(pool)?, old)?;
     *pool = layout::write(&after, pool);
     Ok(pool.len())
+}
+
+/// How many blocks went home.
+pub fn bring_in(pool: &mut Vec<u8>) -> Answer {
+    let (after, count) = rules::bring_in(&old_state_of(pool)?);
+    *pool = layout::write(&after, pool);
+    Ok(count)
 }
 
 pub fn inspect(pool: &[u8]) -> Answer {

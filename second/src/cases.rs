@@ -2,6 +2,7 @@
 //! records and the probe's own edges. Lines worked out by hand stand beside their case.
 
 use crate::conversion;
+use crate::homing;
 use crate::layout::{self, distance, put4, NEXT, PREVIOUS, SMALL_NEXT};
 use crate::levels;
 use crate::script::Script;
@@ -160,8 +161,9 @@ const BY_HAND: [(&str, &str, &str); 40] = [
     ),
     (
         "small blocks are not taken from larger bins or free large blocks",
-        "L 328, T 60, T 68, G 268, T 5, T 60, G 172, T 68, T 5",
-        "L 0 328, T 0 268, T 0 172, G 0 60, T 0 252, T 0 268, G 0 68, T 0 172, T 4 0",
+        "L 400, T 60, T 4, T 68, T 68, G 340, G 172, T 5, S, T 60, T 68, T 5",
+        "L 0 400, T 0 340, T 0 332, T 0 172, T 0 244, G 0 60, G 0 68, T 4 0, \
+         S 0 2 80 1 1 16 148 68, T 0 340, T 0 172, T 4 0",
     ),
     (
         "the largest grant is the remainder's, which keeps 8 bytes",
@@ -176,9 +178,10 @@ const BY_HAND: [(&str, &str, &str); 40] = [
     ),
     (
         "the largest grant is a small bin's",
-        "L 248, T 4, T 60, G 244, S, G 180, S, T 61, T 60, S, T 4, S",
-        "L 0 248, T 0 244, T 0 180, G 0 4, S 0 1 64 1 0 8 12 4, G 0 60, S 0 0 0 2 0 8 76 60, \
-         T 4 0, T 0 180, S 0 1 64 1 0 8 12 4, T 0 244, S 0 2 72 0 0 8 4 0",
+        "L 256, T 4, T 60, T 4, G 252, S, G 188, S, T 61, T 60, S, T 4, S, G 180, S",
+        "L 0 256, T 0 252, T 0 188, T 0 180, G 0 4, S 0 2 72 1 0 8 12 4, G 0 60, \
+         S 0 1 8 2 0 8 76 60, T 4 0, T 0 188, S 0 2 72 1 0 8 12 4, T 0 252, S 0 3 80 0 0 8 4 0, \
+         G 0 4, S 0 2 72 0 0 16 12 4",
     ),
     (
         "the largest grant of the worked tape",
@@ -190,8 +193,9 @@ const BY_HAND: [(&str, &str, &str); 40] = [
     ),
     (
         "a small bin is last in, first out",
-        "L 1024, T 4, T 4, T 4, G 1012, G 1020, G 1004, T 4, T 4, T 4",
-        "L 0 1024, T 0 1020, T 0 1012, T 0 1004, G 0 4, G 0 4, G 0 4, T 0 1004, T 0 1020, T 0 1012",
+        "L 1024, T 4, T 4, T 4, T 4, G 1012, G 1020, G 1004, T 4, T 4, T 4",
+        "L 0 1024, T 0 1020, T 0 1012, T 0 1004, T 0 996, G 0 4, G 0 4, G 0 4, T 0 1004, T 0 1020, \
+         T 0 1012",
     ),
     (
         "the second of a large bin is used, and entering is at second place",
@@ -334,6 +338,7 @@ pub fn probe_cases() -> Vec<ProbeCase> {
     cases.extend(forged_cases());
     cases.extend(levels::probe_cases());
     cases.extend(conversion::fixed::cases());
+    cases.extend(homing::fixed::cases());
     cases
 }
 
@@ -419,13 +424,13 @@ fn false_head_case() -> ProbeCase {
 fn ring_cases() -> Vec<ProbeCase> {
     let mut pool = vec![0; 1024];
     crate::calls::lay_out(&mut pool, 1).unwrap();
-    for s in [68, 76, 68, 76, 68, 76, 4, 4, 4] {
+    for s in [68, 76, 68, 76, 68, 76, 4, 4, 4, 4] {
         crate::calls::take(&mut pool, s).unwrap();
     }
     for offset in [172, 324, 476, 1020, 1012, 1004] {
         crate::calls::give_back(&mut pool, offset).unwrap();
     }
-    // The large list is 168, 472, 320 and the small one 1000, 1008, 1016.
+    // The large list is 168, 472, 320 and the small one 1000, 1008, 1016, above a held block at E.
     let words: [(&str, &[(usize, u32)]); 6] = [
         ("small ring on the first", &[(1016 + SMALL_NEXT, 1000)]),
         ("small ring behind the first", &[(1016 + SMALL_NEXT, 1008)]),
@@ -484,7 +489,8 @@ pub fn probe_edges() -> Vec<ProbeCase> {
         |name: String, input: Vec<u8>, lines: Option<String>| ProbeCase { name, input, lines };
     let stop = |done: &str| Some(format!("{}X 7 0\n", done));
     let mut cases = vec![case("no input".to_string(), Vec::new(), Some(String::new()))];
-    for letter in [0, 10, 32, b'0', b'b', b'X', b'Z', b'd', b'y', b'i', b'l', b'n', b's', 255] {
+    for letter in [0, 10, 32, b'0', b'b', b'X', b'Z', b'd', b'h', b'y', b'i', b'l', b'n', b's', 255]
+    {
         cases.push(case(format!("letter {}", letter), vec![letter, b'D'], stop("")));
         let after = vec![b'D', letter, b'D'];
         cases.push(case(format!("D, letter {}", letter), after, stop("D 0 0 -\n")));
@@ -545,6 +551,7 @@ fn every_call(script: &mut Script) {
         .number(b'M', 9)
         .number(b'Y', 1)
         .number(b'Y', 9)
+        .plain(b'H')
         .plain(b'N')
         .number(b'T', 8)
         .number(b'T', 0)
@@ -556,7 +563,7 @@ fn every_call(script: &mut Script) {
 fn every_call_refused() -> String {
     let sevens = |k: usize| " 7".repeat(k);
     format!(
-        "L 1 0\nM 1 0\nM 1 0\nY 1 0\nY 1 0\nN 1 0\nT 1 0\nT 1 0\nG 1 0\nA 1 0\nP 1 0 0 -\n\
+        "L 1 0\nM 1 0\nM 1 0\nY 1 0\nY 1 0\nH 1 0\nN 1 0\nT 1 0\nT 1 0\nG 1 0\nA 1 0\nP 1 0 0 -\n\
          W 1 0 0\nW 1 0 0\nS 1 0\nC 1 0{}\nC 1 0\nC 1 0{}\nD 0 0 -\n",
         sevens(53),
         sevens(64)

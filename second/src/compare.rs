@@ -6,6 +6,7 @@ use crate::cases::{self, Group};
 use crate::child::{self, Fault};
 use crate::conversion;
 use crate::damage;
+use crate::homing;
 use crate::images;
 use crate::random::Random;
 use crate::report::{Program, Report};
@@ -13,7 +14,7 @@ use crate::rules;
 use crate::script::Script;
 use crate::state::{Layout, State};
 use crate::tape::Request;
-use crate::tapes::{edge_size, joining_offset, odd_offset, payload_of, random_tape};
+use crate::tapes::{edge_offset, edge_size, joining_offset, odd_offset, payload_of, random_tape};
 use crate::{layout, probe, tape};
 use std::path::PathBuf;
 
@@ -60,6 +61,7 @@ pub fn run(options: Options) -> bool {
     compare.damaged_images();
     compare.edges();
     compare.conversions();
+    compare.homings();
     if !compare.options.pool_only {
         compare.banks();
     }
@@ -236,6 +238,15 @@ impl Compare {
         self.all_taken("branches of the conversion taken", &counts.table());
     }
 
+    fn homings(&mut self) {
+        let mut counts = homing::Counts::new();
+        for group in homing::GROUPS {
+            self.group(group, &mut counts);
+        }
+        print_table(HOMINGS, &counts.table());
+        self.all_taken("branches of going home taken", &counts.table());
+    }
+
     fn banks(&mut self) {
         self.report.begin("fixed banks");
         for case in banks::fixed::cases().into_iter().chain(banks::fixed::edges()) {
@@ -274,6 +285,7 @@ impl Compare {
 }
 
 const CONVERSIONS: &str = "branches of the conversion, with every byte compared:";
+const HOMINGS: &str = "branches of going home, with every byte compared:";
 const BANKS: &str = "branches of the bank, on pools with every byte compared:";
 
 fn print_table(title: &str, table: &[(String, u64)]) {
@@ -310,6 +322,9 @@ pub fn count(seed: u64) {
     let mut counts = conversion::Counts::new();
     make_all(seed, conversion::GROUPS, &mut counts);
     print_table(CONVERSIONS, &counts.table());
+    let mut counts = homing::Counts::new();
+    make_all(seed, homing::GROUPS, &mut counts);
+    print_table(HOMINGS, &counts.table());
     let mut counts = banks::Counts::new();
     make_all(seed, banks::GROUPS, &mut counts);
     print_table(BANKS, &counts.table());
@@ -393,6 +408,7 @@ fn every_call(
     script.image(bytes).number(b'M', 2).plain(b'N').plain(b'D');
     let number = *random.pick(&[0, 1, 3, 13, 257, 258, u32::MAX]);
     script.image(bytes).number(b'M', number).plain(b'N').plain(b'D');
+    script.image(bytes).plain(b'H').plain(b'D');
     script.input
 }
 
@@ -421,6 +437,11 @@ fn held_offset(state: &State, random: &mut Random) -> u32 {
     let held: Vec<usize> = state.held().map(|block| block.start).collect();
     if random.chance(1, 3) {
         if let Some(offset) = joining_offset(state, random) {
+            return offset;
+        }
+    }
+    if random.chance(1, 8) {
+        if let Some(offset) = edge_offset(state) {
             return offset;
         }
     }
@@ -492,7 +513,8 @@ fn run_case(seed: u64, number: u64, counts: &mut Counts) -> Case {
     Case { name: format!("seed {}, run {} of {} bytes", seed, number, n), input: script.input }
 }
 
-/// The verdict, and every call behind it: where the image is not sound, no byte may change.
+/// The verdict, and every call behind it: where the image is not sound, no byte may change, but by
+/// bringing in, which comes last.
 fn damaged_case(seed: u64, number: u64) -> Case {
     let damaged = damage::damaged(seed, number);
     let offset = damaged.offset;
@@ -500,7 +522,7 @@ fn damaged_case(seed: u64, number: u64) -> Case {
     script.image(&damaged.bytes).plain(b'N').number(b'T', 8).number(b'G', offset).plain(b'S');
     script.number(b'T', 72).number(b'A', offset).number(b'P', offset);
     script.write_part(offset, &[1, 2, 3, 4]).number(b'C', 53).number(b'C', 52);
-    script.number(b'Y', 1).number(b'Y', 2).plain(b'D');
+    script.number(b'Y', 1).number(b'Y', 2).plain(b'D').plain(b'H').plain(b'D');
     let name = format!("seed {}, damaged image {} ({})", seed, number, damaged.sort);
     Case { name, input: script.input }
 }

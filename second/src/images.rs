@@ -3,12 +3,22 @@
 
 use crate::layout;
 use crate::random::Random;
-use crate::rules;
+use crate::rules::{self, Refusal};
 use crate::state::{Bins, Block, Layout, State, LEAST_LARGE, LEAST_REMAINDER, LOW_RUN};
 use crate::tapes::{edge_size, payload_of};
 
+type GiveBack = fn(&State, u32) -> Result<(State, usize), Refusal>;
+
 pub fn random_image(random: &mut Random, n: usize) -> (State, Vec<u8>) {
     let state = of_either_layout(random, n);
+    let old = random.bytes(n);
+    let bytes = layout::write(&state, &old);
+    (state, bytes)
+}
+
+/// The same by the rule before request 2026-06.
+pub fn random_old_image(random: &mut Random, n: usize) -> (State, Vec<u8>) {
+    let state = old_state(random, n);
     let old = random.bytes(n);
     let bytes = layout::write(&state, &old);
     (state, bytes)
@@ -24,10 +34,44 @@ pub fn of_either_layout(random: &mut Random, n: usize) -> State {
 /// Of layout 1.
 pub fn random_state(random: &mut Random, n: usize) -> State {
     if random.chance(1, 3) {
-        reached(random, n)
+        reached(random, n, rules::give_back)
     } else {
-        put_together(random, n)
+        let state = put_together(random, n);
+        with_edge(random, state)
     }
+}
+
+/// Where free blocks stand at E they go home, or the first of them is held after all.
+fn with_edge(random: &mut Random, mut state: State) -> State {
+    match state.high.first_mut() {
+        Some(block) if !block.held && random.chance(1, 2) => {
+            block.held = true;
+            state.small_bins = bins_in_any_order(random, &state.high);
+            state
+        }
+        _ => rules::bring_in(&state).0,
+    }
+}
+
+/// A state by the rule before request 2026-06, of either layout: mostly with free blocks at E.
+pub fn old_state(random: &mut Random, n: usize) -> State {
+    let mut state = match random.below(3) {
+        0 => reached(random, n, rules::give_back_old),
+        1 => put_together(random, n),
+        _ => put_together_below_free(random, n),
+    };
+    state.layout = *random.pick(&Layout::BOTH);
+    state
+}
+
+/// With a run of free blocks from E on, few or many.
+fn put_together_below_free(random: &mut Random, n: usize) -> State {
+    let mut state = put_together(random, n);
+    let most = *random.pick(&[1, 2, 5, 20, state.high.len()]);
+    let count = random.below(most.min(state.high.len()) + 1);
+    state.high[..count].iter_mut().for_each(|block| block.held = false);
+    state.small_bins = bins_in_any_order(random, &state.high);
+    state
 }
 
 pub fn random_pool_size(random: &mut Random) -> usize {
@@ -46,7 +90,8 @@ fn few_sizes(random: &mut Random, least: usize, greatest: usize) -> Vec<usize> {
     (0..count).map(|_| random.between(least / 8, greatest.max(least) / 8) * 8).collect()
 }
 
-fn reached(random: &mut Random, n: usize) -> State {
+/// By takes and give-backs; the way back is that of the rule in force, or of the old one.
+fn reached(random: &mut Random, n: usize, give_back: GiveBack) -> State {
     let mut state = State::fresh(n, Layout::One);
     let top = *random.pick(&[80, 160, n / 4]);
     let mut sizes = few_sizes(random, 72, top);
@@ -60,7 +105,7 @@ fn reached(random: &mut Random, n: usize) -> State {
             let s = edge.unwrap_or_else(|| payload_of(block, random));
             rules::take(&state, s)
         } else {
-            rules::give_back(&state, *random.pick(&held) as u32)
+            give_back(&state, *random.pick(&held) as u32)
         };
         if let Ok((after, _)) = outcome {
             state = after;
@@ -69,6 +114,7 @@ fn reached(random: &mut Random, n: usize) -> State {
     state
 }
 
+/// By the old rule: whatever the blocks at E are.
 fn put_together(random: &mut Random, n: usize) -> State {
     let room = n - LOW_RUN - LEAST_REMAINDER;
     let low_room = if random.chance(1, 4) { room } else { random.below(room / 8 + 1) * 8 };
@@ -220,14 +266,15 @@ pub fn extreme_states(random: &mut Random) -> Vec<State> {
     let mut states = Vec::new();
     let mut small = full_of_small(n);
     small.high.iter_mut().enumerate().for_each(|(i, block)| block.held = i % 3 == 0);
-    let mut all_free = small.clone();
-    all_free.high.iter_mut().for_each(|block| block.held = false);
+    let mut all_but_the_edge = small.clone();
+    all_but_the_edge.high.iter_mut().for_each(|block| block.held = false);
+    all_but_the_edge.high[0].held = true;
     let equal = vec![72; room / 72];
     let rising: Vec<usize> = (0..222).map(|i| if i % 2 == 0 { 72 + 4 * i } else { 72 }).collect();
     let mut mixed = rising.clone();
     random.shuffle(&mut mixed);
     states.push(small);
-    states.push(all_free);
+    states.push(all_but_the_edge);
     for sizes in [equal, rising, mixed] {
         let mut state = State::fresh(n, Layout::One);
         state.low = alternating(&sizes, room);
@@ -242,6 +289,36 @@ pub fn extreme_states(random: &mut Random) -> Vec<State> {
     states.push(tall);
     for state in &mut states {
         state.large_bins = bins_in_any_order(random, &state.low);
+        state.small_bins = bins_in_any_order(random, &state.high);
+    }
+    let second = states.iter().map(|state| State { layout: Layout::Two, ..state.clone() });
+    let second: Vec<State> = second.collect();
+    states.extend(second);
+    states
+}
+
+/// How many there are of `extreme_old_states`.
+pub const OLD_EXTREMES: usize = 6;
+
+/// Pools of the greatest size by the rule before request 2026-06, each in both layouts, full of small
+/// blocks that are free from E on: all of one size, up to one in the middle, of all sizes.
+pub fn extreme_old_states(random: &mut Random) -> Vec<State> {
+    let n = crate::state::GREATEST_POOL;
+    let mut one_size = full_of_small(n);
+    one_size.high.iter_mut().for_each(|block| block.held = false);
+    let mut to_the_middle = one_size.clone();
+    let middle = to_the_middle.high.len() / 2;
+    to_the_middle.high[middle].held = true;
+    let mut all_sizes = State::fresh(n, Layout::One);
+    let mut start = n;
+    while start > LOW_RUN + LEAST_REMAINDER + 64 {
+        let size = 8 * random.between(1, 8);
+        start -= size;
+        all_sizes.high.push(Block { start, size, held: start > n - 2_000 && random.chance(1, 4) });
+    }
+    all_sizes.high.reverse();
+    let mut states = vec![one_size, to_the_middle, all_sizes];
+    for state in &mut states {
         state.small_bins = bins_in_any_order(random, &state.high);
     }
     let second = states.iter().map(|state| State { layout: Layout::Two, ..state.clone() });

@@ -151,6 +151,13 @@ pub fn write(state: &State, old: &[u8]) -> Vec<u8> {
 
 /// The state that the bytes hold, or why they hold none.
 pub fn read(bytes: &[u8]) -> Result<State, String> {
+    let state = read_old(bytes)?;
+    state.edge_fits()?;
+    Ok(state)
+}
+
+/// The same by the rule before request 2026-06: a free block may stand at E.
+pub fn read_old(bytes: &[u8]) -> Result<State, String> {
     if !allowed(bytes.len()) {
         return Err(format!("a pool of {} bytes is not allowed", bytes.len()));
     }

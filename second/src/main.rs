@@ -29,6 +29,7 @@ mod child;
 mod compare;
 mod conversion;
 mod damage;
+mod homing;
 mod images;
 mod layout;
 mod levels;

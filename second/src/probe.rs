@@ -19,6 +19,7 @@ pub enum Command<'a> {
     LayOutAs(u32),
     /// By the old layout's number.
     Convert(u32),
+    BringIn,
     Inspect,
     Take(u32),
     GiveBack(u32),
@@ -89,6 +90,7 @@ impl<'a> Reader<'a> {
             b'L' => Command::LayOut,
             b'M' => Command::LayOutAs(self.number()?),
             b'Y' => Command::Convert(self.number()?),
+            b'H' => Command::BringIn,
             b'N' => Command::Inspect,
             b'T' => Command::Take(self.number()?),
             b'G' => Command::GiveBack(self.number()?),
@@ -131,7 +133,7 @@ fn hex(bytes: &[u8]) -> String {
     text
 }
 
-fn answer_line(letter: char, answer: Result<usize, Refusal>) -> String {
+pub fn answer_line(letter: char, answer: Result<usize, Refusal>) -> String {
     let (number, value) = calls::number_and_value(&answer);
     format!("{} {} {}", letter, number, value)
 }
@@ -197,6 +199,7 @@ impl Bench {
             Command::LayOut => answer_line('L', calls::lay_out(pool, Layout::One.number())),
             Command::LayOutAs(number) => answer_line('M', calls::lay_out(pool, number)),
             Command::Convert(old) => answer_line('Y', calls::convert(pool, old)),
+            Command::BringIn => answer_line('H', calls::bring_in(pool)),
             Command::Inspect => answer_line('N', calls::inspect(pool)),
             Command::Take(s) => answer_line('T', calls::take(pool, s)),
             Command::GiveBack(offset) => answer_line('G', calls::give_back(pool, offset)),

@@ -98,6 +98,16 @@ fn split(state: &mut State, start: usize, whole: usize, size: usize) {
 
 /// The state after a give-back, and the payload bytes.
 pub fn give_back(state: &State, offset: u32) -> Result<(State, usize), Refusal> {
+    let (mut after, payload) = give_back_old(state, offset)?;
+    if payload + 4 <= GREATEST_SMALL {
+        go_home(&mut after);
+    }
+    Ok((after, payload))
+}
+
+/// The same by the rule before request 2026-06: no small block is ever joined. Pools stored under
+/// it are made by this.
+pub fn give_back_old(state: &State, offset: u32) -> Result<(State, usize), Refusal> {
     let block = held_block(state, offset)?;
     let mut after = state.clone();
     if block.size <= GREATEST_SMALL {
@@ -107,6 +117,22 @@ pub fn give_back(state: &State, offset: u32) -> Result<(State, usize), Refusal> 
         give_back_large(&mut after, block.start);
     }
     Ok((after, block.size - 4))
+}
+
+/// As long as the block at E is free, it leaves its bin and joins the remainder; how many did.
+fn go_home(state: &mut State) -> usize {
+    let count = state.high.iter().take_while(|block| !block.held).count();
+    for block in state.high.drain(..count) {
+        leave(&mut state.small_bins, block.size, block.start);
+    }
+    count
+}
+
+/// The state after bringing in one that follows the old rule, and how many blocks went home.
+pub fn bring_in(state: &State) -> (State, usize) {
+    let mut after = state.clone();
+    let count = go_home(&mut after);
+    (after, count)
 }
 
 fn give_back_large(state: &mut State, start: usize) {

@@ -20,7 +20,7 @@ impl Script {
         self
     }
 
-    /// A command without a body: L, N, S, D or V.
+    /// A command without a body: L, H, N, S, D or V.
     pub fn plain(&mut self, letter: u8) -> &mut Script {
         self.input.push(letter);
         self
@@ -100,6 +100,7 @@ fn in_words(command: &Command) -> String {
         Command::LayOut => "L".to_string(),
         Command::LayOutAs(number) => format!("M {}", number),
         Command::Convert(old) => format!("Y {}", old),
+        Command::BringIn => "H".to_string(),
         Command::Inspect => "N".to_string(),
         Command::Figures => "S".to_string(),
         Command::Dump => "D".to_string(),

@@ -6,6 +6,7 @@ use crate::branches::Counts;
 use crate::cases::{self, Group};
 use crate::conversion;
 use crate::damage;
+use crate::homing;
 use crate::images;
 use crate::layout::{self, get4, get8};
 use crate::levels;
@@ -33,6 +34,9 @@ pub fn run(seed: u64, keep: &Path) -> bool {
     damaged_images(&mut report, seed);
     let mut counts = conversion::Counts::new();
     laws(&mut report, seed, "laws of the conversion", conversion::GROUPS, &mut counts);
+    let mut counts = homing::Counts::new();
+    laws(&mut report, seed, "laws of going home", homing::GROUPS, &mut counts);
+    slips(&mut report, seed);
     let mut counts = banks::Counts::new();
     laws(&mut report, seed, "laws of the bank", banks::GROUPS, &mut counts);
     report.close()
@@ -114,6 +118,11 @@ fn index_words(report: &mut Report) {
     let top = [32_768, 65_536].map(|size| Layout::Two.height(size));
     report.check(top == [13, 13], "no bin is higher than 13");
     for (name, wrong) in conversion::fixed::words_by_hand() {
+        report.check(wrong.is_none(), &format!("{}: {:?}", name, wrong));
+    }
+    report.end();
+    report.begin("words of going home");
+    for (name, wrong) in homing::fixed::words_by_hand() {
         report.check(wrong.is_none(), &format!("{}: {:?}", name, wrong));
     }
     report.end();
@@ -267,6 +276,15 @@ fn sound_images(report: &mut Report, seed: u64) {
     report.end();
 }
 
+/// What the calls would do with one slip in them must not pass.
+fn slips(report: &mut Report, seed: u64) {
+    report.begin("slips shown");
+    for (what, seen) in homing::shown(seed) {
+        report.check(seen, &format!("not so: {}", what));
+    }
+    report.end();
+}
+
 /// A damaged image that reads as a state has to be exactly that state's bytes.
 fn damaged_images(report: &mut Report, seed: u64) {
     report.begin("damaged images");
@@ -276,7 +294,8 @@ fn damaged_images(report: &mut Report, seed: u64) {
             Ok(state) => {
                 step_holds(&state, &bytes).is_ok() && layout::write(&state, &bytes) == bytes
             }
-            Err(_) => true,
+            Err(_) => layout::read_old(&bytes)
+                .map_or(true, |state| layout::write(&state, &bytes) == bytes),
         };
         report.check(holds, &format!("seed {}, damaged image {}", seed, number));
     }

@@ -132,7 +132,18 @@ impl State {
 
     pub fn well_formed(&self) -> Result<(), String> {
         self.runs_fit()?;
+        self.edge_fits()?;
         self.bins_fit()
+    }
+
+    /// E is n, or the block at E is held (request 2026-06).
+    pub fn edge_fits(&self) -> Result<(), String> {
+        match self.high.first() {
+            Some(block) if !block.held => {
+                Err(format!("a free block stands at E = {}", block.start))
+            }
+            _ => Ok(()),
+        }
     }
 
     /// The pool's size and both runs of blocks are as the paper says; bins are not looked at.

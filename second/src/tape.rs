@@ -94,12 +94,14 @@ pub fn unreadable_line() -> String {
 /// The tape and the probe print figures alike: seven where done, one 0 where refused.
 pub fn figures_line(pool: &[u8]) -> String {
     match calls::figures(pool) {
-        Ok(figures) => {
-            let words: Vec<String> = figures.iter().map(|figure| figure.to_string()).collect();
-            format!("S 0 {}", words.join(" "))
-        }
+        Ok(figures) => figures_line_of(&figures),
         Err(refusal) => format!("S {} 0", refusal.number()),
     }
+}
+
+pub fn figures_line_of(figures: &[usize; 7]) -> String {
+    let words: Vec<String> = figures.iter().map(|figure| figure.to_string()).collect();
+    format!("S 0 {}", words.join(" "))
 }
 
 /// All lines of a tape.

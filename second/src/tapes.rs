@@ -202,7 +202,8 @@ impl Maker<'_> {
         } else {
             let any = *random.pick(&held) as u32 + 4;
             let joining = if random.chance(1, 6) { joining_offset(state, random) } else { None };
-            Request::GiveBack(joining.unwrap_or(any))
+            let edge = if random.chance(1, 8) { edge_offset(state) } else { None };
+            Request::GiveBack(joining.or(edge).unwrap_or(any))
         }
     }
 }
@@ -250,6 +251,11 @@ pub fn joining_offset(state: &State, random: &mut Random) -> Option<u32> {
         return None;
     }
     Some(*random.pick(&starts) as u32 + 4)
+}
+
+/// Of the block at E, which goes home, where there is one.
+pub fn edge_offset(state: &State) -> Option<u32> {
+    state.high.first().filter(|block| block.held).map(|block| block.start as u32 + 4)
 }
 
 /// An offset that is mostly no held payload's: starts, middles, free blocks, remainder, outside.

@@ -7,7 +7,7 @@ import sys
 
 from bank import BYTES, PISTONS, REFUSED, Bank
 from pistons import BankPicture
-from pool import Pool
+from pool import Pool, free_blocks
 from svg import Picture
 
 TOOLS = os.path.dirname(os.path.dirname(os.path.abspath(__file__)))
@@ -118,9 +118,10 @@ def recalled(line):
 
 
 def verdict(data, bank):
-    """Inspection's answer, the seven figures where it is 0, and the recall of each piston where there is a bank."""
-    _, inspected, figures, *rest = ask_probe([image_command(data), b"N", b"S"] + (recall_commands(bank) if bank else []))
-    return int(inspected.split()[1]), [int(word) for word in figures.split()[2:]], [recalled(line) for line in rest[1:]]
+    """Inspection's answer, the seven figures where it is 0, the recall of each piston where there is a bank, and how many blocks go home where
+    the pool is brought in; that comes last, since it changes probe's copy of the pool."""
+    _, inspected, figures, *rest, brought = ask_probe([image_command(data), b"N", b"S"] + (recall_commands(bank) if bank else []) + [b"H"])
+    return int(inspected.split()[1]), [int(word) for word in figures.split()[2:]], [recalled(line) for line in rest[1:]], int(brought.split()[2])
 
 
 # The picture
@@ -163,9 +164,14 @@ def shown(name):
     return "".join(c if c.isprintable() else "?" for c in text)
 
 
-def judge(pool, number):
+def judge(pool, number, brought):
     """What is said of a pool, and what ends the run, after its picture is made."""
-    if number != 0:
+    if pool.to_bring_in != brought:
+        raise Stop(NOT_DONE, f"probe brings {brought} blocks of the pool in, and the drawing shows {pool.to_bring_in}: one of them is wrong")
+    if number != 0 and brought:
+        print(f"tools/map: probe refuses the pool with {number}: it has {free_blocks(brought)} at E, as version 0.5 and older ones left "
+              f"{'it' if brought == 1 else 'them'}; tools/bring-in brings it in", file=sys.stderr)
+    elif number != 0:
         where = f"the first thing that does not fit is at {pool.faults[0].at}" if pool.faults else "the drawing shows no reason"
         print(f"tools/map: probe refuses the pool with {number}: it is not sound; {where}", file=sys.stderr)
     elif pool.faults:
@@ -195,7 +201,7 @@ def draw(name, is_tape, bank_name, out):
     keep(out, [name] + ([bank_name] if bank_name else []))
     bank_data = read_bank(bank_name) if bank_name else None
     data = run_tape(name) if is_tape else read_image(name)
-    number, figures, recalls = verdict(data, bank_data)
+    number, figures, recalls, brought = verdict(data, bank_data)
     if number == 1:
         raise Stop(NO_POOL, f"{name} has {len(data)} bytes, and probe refuses it with 1: no multiple of 8 from 176 to 65536")
     pool = Pool(data)
@@ -203,7 +209,7 @@ def draw(name, is_tape, bank_name, out):
     title = f"{shown(name)}, after its last record" if is_tape else shown(name)
     sheet = BankPicture(bank, shown(bank_name), [answer for answer, _ in recalls]) if bank else Picture(pool)
     put(out, sheet.draw(title, number, figures))
-    judge(pool, number)
+    judge(pool, number, brought)
     if bank and number == 0:
         judge_bank(bank, recalls)
 

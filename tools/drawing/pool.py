@@ -31,6 +31,10 @@ def height(size):
     return min(LEVELS, (size // 8 & -(size // 8)).bit_length())
 
 
+def free_blocks(count):
+    return "a free block" if count == 1 else f"{count} free blocks"
+
+
 def index_word(level):
     """Where the index word of a level, counted from 1, stands in a block."""
     return CHAIN - 4 * (level - 1)
@@ -53,6 +57,7 @@ class Pool:
         self._index()
         self._left_out()
         self._free_word()
+        self._edge()
         # What breaks a walk comes first, what only follows from another fault last; the rest keeps its order.
         self.faults.sort(key=lambda fault: (fault.follows, not fault.breaks))
 
@@ -181,6 +186,19 @@ class Pool:
             # a head whose bit fell over changes the sum
             self.fault(FREE_WORD, f"the free word reads {self.reads(FREE_WORD, 8)}, and the free sizes less 4 are {total}",
                        follows=bool(self.faults))
+
+    def _edge(self):
+        """Free blocks at E, up to the first held one: version 0.5 and older ones left them there. Where nothing else is wrong, the pool can be
+        brought in, and `to_bring_in` is how many of them go home."""
+        count = 0
+        for block in self.blocks:
+            if self.end is not None and block.start >= self.end:
+                if block.kind == "held":
+                    break
+                count += 1
+        self.to_bring_in = 0 if self.faults else count
+        if count:
+            self.fault(self.end, f"{'the first of ' * (count > 1)}{free_blocks(count)} at E, where a held one belongs")
 
     # Bins
 

@@ -123,7 +123,10 @@ class Picture:
     # Above the rows
 
     def head(self, title, number, figures):
-        verdict, style = ("sound", "good") if number == 0 else (f"not sound, refused with {number}", "red")
+        if number == 0:
+            verdict, style = "sound", "good"
+        else:
+            verdict, style = f"refused with {number}: bring it in" if self.pool.to_bring_in else f"not sound, refused with {number}", "red"
         while width_of(title, 22) > WIDTH - 2 * MARGIN - 250:
             title = title[:-2] + "…"
         self.words.append(text(MARGIN, 46, title, "name"))

@@ -17,11 +17,14 @@ SEEN = 60  # at most as it was called,
 RUNS = 1200  # while so many exported calls ran
 LEVELS = {"level", "to", "top", "height", "h", "k"}  # numbers of these names are mostly small: a level, or how many words
 TURNS = 1500  # that a call's loops may take; a case that takes more is left out
-TRIES = 400  # by chance, where a way of the function was never gone
+TRIES = 1000  # by chance, where a way of the function was never gone
 EDGES = [0, 1, 2, 3, 4, 7, 8, 9, 12, 13, 14, 16, 24, 31, 32, 33, 34, 35, 52, 53, 54, 63, 64, 65, 68, 71, 72, 73, 80, 96, 128, 168, 172, 255, 256, 289,
          290, 291, 32768, 65535, 65536, 65537, 2 ** 31 - 1, 2 ** 31, 2 ** 31 + 1, 2 ** 32 - 72, 2 ** 32 - 8, 2 ** 32 - 4, 2 ** 32 - 1]
 WIDE = [2 ** 32, 2 ** 32 + 4, 2 ** 33, 2 ** 63, 2 ** 64 - 4, 2 ** 64 - 1]
 LEVEL_WORD = 108  # of the false block
+SMALL_BINS = list(range(32, 96, 8))  # where the first block of each small bin stands
+MEANT = {"first": SMALL_BINS, "due": [0, 1, 2, 3, 3], "old": [0, 1, 1, 2, 2, 3]}  # what numbers of these names mostly are
+LONGEST = 65536  # bytes of a pool
 PREAMBLE = """// Every function of pool.c by itself: tools/translating/functions.py writes it.
 #include "pool.c"
 #include <stdio.h>
@@ -73,6 +76,7 @@ class Functions:
         """`file` has been written, so that names and types are known."""
         self.file, self.paths, self.machine = file, paths, Machine(files)
         self.random = random.Random(1)
+        self.stored, self.edges = [], []
         self.pools = self.make_pools()
 
     # ---- pools
@@ -109,7 +113,11 @@ class Functions:
                 at = 4 * self.random.choice([self.random.randrange(42), self.random.randrange(len(pool) // 4)])
                 pool[at:at + 4] = struct.pack("<I", self.random.choice([self.number_in(pool), self.random.getrandbits(32)]))
             damaged.append(pool)
-        return pools + damaged + short + [ring for ring in map(self.ring, pools) if ring]
+        self.stored = [self.at_edge(n, layout) for layout in (1, 2) for n in (256, 384, 384, 512, 512, 1024)]
+        self.edges = self.stored * 2 + self.near_stored() + [self.crowded(n, n // 8 - less) for n in (256, 256, 512, 2048) for less in (0, 1)] * 2
+        # 256 blocks to send home
+        self.edges += [self.at_edge(2304, 1, [4] * 258, 256)] * 4
+        return pools + damaged + short + [ring for ring in map(self.ring, pools) if ring] + self.edges
 
     def laid_out(self, n, layout):
         """A fresh pool of n bytes; the level word alone tells the layouts apart while there is no bin."""
@@ -118,6 +126,41 @@ class Functions:
         self.machine.call(name, [lent, n, 1][:self.machine.raw[name]["params"]])
         block.numbers[LEVEL_WORD] = {1: 1, 2: 13}[layout]
         return block, lent
+
+    def at_edge(self, n, layout, sizes=None, lowest=None):
+        """A pool as version 0.5 stored them: some of its small blocks came back, each to the front of its bin, also where the remainder ends. Those free
+        there, end to end, are one or more, or all up to the pool's end; others of their bins stand higher up."""
+        block, lent = self.laid_out(n, layout)
+        small = []
+        for size in sizes or [68] + [self.random.choice([4, 4, 4, 12, 12, 28, 60]) for _ in range(self.random.choice([4, 8, 14]))] + [76]:
+            tag, value = self.machine.call("grant::take", [lent, size])
+            small = [value - 4] + small if tag == 0 and size < 68 else small
+        lowest = lowest or self.random.choice([1, 2, len(small) // 2, len(small)])
+        back = small[:lowest] + [start for start in small[lowest + 1:] if self.random.random() < 0.5]
+        self.random.shuffle(back)
+        for start in back:
+            size = self.word(block.numbers, start) >> 2
+            self.machine.call("giveback::small::at_front", [lent, start, size])
+            self.machine.call("giveback::earn", [lent, size])
+        return list(block.numbers)
+
+    def near_stored(self):
+        """Each of the stored ones with one of its lowest small blocks of size 0, or held, or so large that it ends beyond the pool; cut off; with a head
+        in the last word, where the remainder ends; and with a ring in a small bin, whose last block leads back to the first or to itself."""
+        pools = []
+        for pool, less in zip(self.stored, [1, 4, 7, 8, 9, 12, 16, 24, 40, 64, 4, 8]):
+            at = self.random.choice(self.upper(pool)[:3])
+            head = struct.pack("<I", self.random.choice([0, 2, self.word(pool, at) | 1, len(pool) << 2, 2 ** 32 - 30]))
+            pools += [pool[:at] + list(head) + pool[at + 4:], pool[:len(pool) - less]]
+            end, last = struct.pack("<I", len(pool) - 4), struct.pack("<I", 8 << 2 | self.random.choice([2, 3]))
+            pools.append(pool[:24] + list(end) + pool[28:-4] + list(last))
+            for first in [first for first in (self.word(pool, word) for word in SMALL_BINS) if first][:2]:
+                last = first
+                while self.word(pool, last + 4):
+                    last = self.word(pool, last + 4)
+                link = struct.pack("<I", self.random.choice([first, last]))
+                pools.append(pool[:last + 4] + list(link) + pool[last + 8:])
+        return pools
 
     def ring(self, pool):
         """The pool with the last bin of its chain linked back to the first, if it has two."""
@@ -153,6 +196,29 @@ class Functions:
                 yield at, self.word(pool, at)
                 at += self.word(pool, at) >> 2
 
+    @staticmethod
+    def crowded(n, members):
+        """Bytes in which every small bin has so many members: one whose link is the pool's last word, and then one in every word from 96 on. No list is
+        gone along further than n / 8 of them. The remainder ends above all but the first; or, of 512 bytes, where they are, 256 bytes before the end."""
+        words = [0] * (n // 4)
+        for word in SMALL_BINS:
+            words[word // 4] = n - 8
+        for member in range(96, 96 + 4 * (members - 2), 4):
+            words[member // 4 + 1] = member + 4
+        words[24 // 4] = n - 256 if n == 512 else n - 16
+        words[4 // 4] = n - 8  # where a walk that does not end at 0 comes to
+        words[n // 4 - 4], words[n // 4 - 1] = 16 << 2 | 3, 96
+        return list(struct.pack(f"<{n // 4}I", *words))
+
+    def upper(self, pool):
+        """Where the blocks from the remainder's end on start."""
+        return [at for at, _ in self.blocks(pool) if at >= self.word(pool, 24)]
+
+    def pool_for(self, path):
+        """One by chance; for the functions that send blocks home mostly one that has some to send."""
+        wanted = path.split("::")[0] in ("homing", "bringing") and self.random.random() < 0.7
+        return self.random.choice(self.edges if wanted else self.pools)
+
     # ---- arguments
 
     def arguments(self, params, pool, names=()):
@@ -167,6 +233,12 @@ class Functions:
         for at, ty in enumerate(params):
             if ty == Int(32) and at < len(names) and names[at] in LEVELS:
                 made.append(self.level())
+            elif ty == Int(32) and at < len(names) and names[at] in MEANT and self.random.random() < 0.7:
+                number = self.random.choice(MEANT[names[at]])
+                made.append((number, packed(64, [number])))
+            elif ty == Int(32) and at < len(names) and names[at] in ("from", "edge") and self.upper(pool) and self.random.random() < 0.5:
+                number = self.random.choice(self.upper(pool))
+                made.append((number, packed(64, [number])))
             elif isinstance(ty, Slice) and ty.of == Int(8):
                 lists += 1
                 made.append(self.lent(8, pool if lists == 1 else self.few()))
@@ -277,7 +349,18 @@ class Functions:
         for _ in range(RUNS):
             path = self.random.choice([p for p in exported for _ in range(3 if "bank_" in p else 1)])
             pool = self.random.choice(self.pools)
-            self.machine.call(path, [value for value, _ in self.arguments(self.file.program.signature(path)[1], pool)])
+            made = self.arguments(self.file.program.signature(path)[1], pool, self.file.source(path).params)
+            self.machine.call(path, [value for value, _ in made])
+        # those that version 0.5 stored are brought in, and their blocks come back, often the one where the remainder ends
+        bring_in, = (path for path in exported if path.endswith("pool_bring_in"))
+        give_back, = (path for path in exported if path.endswith("pool_give_back"))
+        for pool in self.stored:
+            lent, _ = self.lent(8, pool)
+            block = lent[0][0]
+            self.machine.call(bring_in, [lent])
+            while held := [at + 4 for at, word in self.blocks(block.numbers) if word & 1]:
+                edge = self.word(block.numbers, 24) + 4
+                self.machine.call(give_back, [lent, edge if edge in held and self.random.random() < 0.5 else self.random.choice(held)])
         self.machine.watch = None
         return seen
 
@@ -313,7 +396,7 @@ class Functions:
         params, names = self.file.program.signature(path)[1], self.file.source(path).params
         lists = any(isinstance(ty, Slice) for ty in params)
         for _ in range(CASES if lists else 5 * CASES):
-            yield self.arguments(params, self.random.choice(self.pools), names)
+            yield self.arguments(params, self.pool_for(path), names)
         for at, ty in enumerate(params if not lists else []):
             for edge in EDGES + WIDE if isinstance(ty, Int) else []:
                 made = self.arguments(params, self.random.choice(self.pools))
@@ -335,13 +418,15 @@ class Functions:
         return b"".join(read), "\n".join(lines) + "\n"
 
     def search(self, number, path, params):
-        """More cases, where some ways of the function were never gone: of many by chance those that go a new one."""
+        """More cases, where some ways of the function were never gone: of many by chance, and of a few with the longest pool and a longer one, those
+        that go a new one."""
         ways = set(self.machine.branches(path))
-        for _ in range(TRIES):
+        for turn in range(TRIES + 20):
             left = ways - self.machine.taken
             if not left:
                 return
-            case = self.case(number, path, self.arguments(params, self.random.choice(self.pools), self.file.source(path).params))
+            pool = self.random.choice(self.pools) if turn < TRIES else [0] * (LONGEST + turn % 2)
+            case = self.case(number, path, self.arguments(params, pool, self.file.source(path).params))
             if left & self.machine.taken:
                 yield from case
 

@@ -30,7 +30,7 @@ use Rattle.paper.specs.Blocks.{Block, Kind, State, block, free, freeSum, held, 
 use Rattle.paper.specs.Governed.{above, blockWord, headWord, headerWord, height, index, largeWord, link, pastHead, sheet, smallWord, walk}
 use Rattle.paper.specs.Layout.{blocks-at, chain-at, false-block, false-word-at, free-word-at, large, level-at, next-at, small-bins}
 use Rattle.paper.specs.Sheet.{Holds}
-use Rattle.paper.specs.Sound.{High, Low, Sized, Sound, WellFormed, freeAt}
+use Rattle.paper.specs.Sound.{High, Low, OldSound, Sized, WellFormed, freeAt}
 use Rattle.words.specs.Choice.{by<, by=, if<-no, if<-yes, if=-no, if=-yes}
 use Rattle.words.specs.Words.{Bytes, wordAt}
 
@@ -286,5 +286,5 @@ module _ (bs : List ℕ) (by : Bytes bs) (al : Allowed (length bs)) (rt : RestSt
     held-by : Holds (sheet s) bs
     held-by = holds-from (sheet s) bs (omega (arith, al)) by (λ a al l. sheet-ok a al)
 
-    pub built : Sound bs
-    built = record { length-allowed = al; state = s; well-formed = wf; ends = is-end; holds = held-by }
+    pub built : OldSound bs
+    built = record { length-allowed = al; state = s; well-formed = wf; edge = tt; ends = is-end; holds = held-by }

@@ -1,4 +1,4 @@
--- The inspection accepts the sound pools of either layout, and no others.
+-- The tests accept the pools of either layout that are sound by the old rule, and no others: they ask nothing of the block at E.
 use mathlib.Core.Bool.{false, true}
 use mathlib.Core.List.{List, [], _∷_}
 use mathlib.Core.Logic.{_≢_, _⊎_, inl, inr, ⊎-elim}
@@ -30,7 +30,7 @@ use Rattle.paper.specs.Bins.{first}
 use Rattle.paper.specs.Blocks.{Block, freeSum}
 use Rattle.paper.specs.Governed.{above}
 use Rattle.paper.specs.Layout.{blocks-at, chain-at, false-block, free-word-at, level-at, levels}
-use Rattle.paper.specs.Sound.{Sound}
+use Rattle.paper.specs.Sound.{OldSound}
 use Rattle.words.specs.Choice.{by<}
 use Rattle.words.specs.Words.{Bytes, wordAt}
 
@@ -64,7 +64,7 @@ module _ (bs : List ℕ) (by : Bytes bs) (al : Allowed (length bs)) (rt : RestSt
   t13 : t ≤ levels
   t13 = ⊎-elim (λ e. omega arith) (λ e. omega arith) (top-cases bs)
 
-  from-lists : FalseStands bs → lists listMarks bs (length ms) ms ≡ true → Sound bs
+  from-lists : FalseStands bs → lists listMarks bs (length ms) ms ≡ true → OldSound bs
   unfolding lists
   from-lists ft h =
       let a = inv-left (smalls listMarks bs 8 8 (length ms) ms) false true
@@ -94,7 +94,7 @@ module _ (bs : List ℕ) (by : Bytes bs) (al : Allowed (length bs)) (rt : RestSt
       (S .all)
 
 module _ (bs : List ℕ) where
-  pub only-sound : Bytes bs → inspect listMarks bs ≡ true → Sound bs
+  pub only-sound : Bytes bs → inspect listMarks bs ≡ true → OldSound bs
   unfolding inspect scanned
   only-sound by h =
       let g1 = guard-inv (size-tests bs) false _ true false-true h in
@@ -114,5 +114,5 @@ module _ (bs : List ℕ) where
       (subst (λ (v : List ℕ). lists listMarks bs (length v) v ≡ true) (hi .4 ∙ ap (push (hi .0) (E bs)) (lo .4))
       (subst (λ (v : ℕ). lists listMarks bs v (s1 .1) ≡ true) (hi .6) (g4 .1)))
 
-  pub all-sound : Sound bs → inspect listMarks bs ≡ true
+  pub all-sound : OldSound bs → inspect listMarks bs ≡ true
   all-sound S = accepts bs (S .state) (S .well-formed) (sym (S .ends)) (S .holds)

@@ -10,7 +10,7 @@ use Rattle.marks.proofs.Laws.{length-put}
 use Rattle.marks.proofs.StartMarks.{mark-at-most-one, mark-put, none-marked}
 use Rattle.marks.specs.Marks.{putBitAt}
 use Rattle.marks.specs.MarkSets.{bitMarks, markAt}
-use Rattle.paper.proofs.keeps.BackThenHeld.{held-runs}
+use Rattle.paper.proofs.keeps.Kept.{held-runs}
 use Rattle.paper.proofs.reads.Stands.{Stands}
 use Rattle.paper.proofs.runs.Splitting.{starts-cons}
 use Rattle.paper.proofs.runs.Walk.{sized-eight}

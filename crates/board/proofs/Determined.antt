@@ -17,7 +17,7 @@ same-number r r' e =
 pub answer-determined : (h : Halves) (r r' : ℕ) → h ≡ halves r → h ≡ halves r' → r ≡ r'
 answer-determined h r r' e f = same-number r r' (sym e ∙ f)
 
--- of the pool's other five and of pool_convert
+-- of the pool's other five, of pool_convert and of pool_bring_in
 pub outcome-determined : (o : Left) (r r' : ℕ) (a a' : List ℕ) → o ≡ left (halves r) a → o ≡ left (halves r') a' → (r ≡ r') × (a ≡ a')
 outcome-determined o r r' a a' e f =
     let g : left (halves r) a ≡ left (halves r') a' = sym e ∙ f in

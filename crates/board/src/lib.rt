@@ -1,5 +1,5 @@
-// The public calls for C: crate pool's own and `convert`, each of which answers one number of 64 bits, with the refusal's number in its
-// upper half and the value in its lower half. A slice is a pointer and a length in C (include/pool.h). None has a precondition, and
+// The public calls for C: crate pool's own, `convert` and `bring_in`, each of which answers one number of 64 bits, with the refusal's number
+// in its upper half and the value in its lower half. A slice is a pointer and a length in C (include/pool.h). None has a precondition, and
 // each contract is an equation with the call's own definition. `pistons` has the piston bank's, with the bank's definitions.
 mod fill;
 mod halves;
@@ -9,6 +9,7 @@ pub use pistons::bank_clear;
 pub use pistons::bank_recall;
 pub use pistons::bank_set;
 ghost use mathlib.Core.Path.{_≡_};
+ghost use Rattle.bringing.specs.BringingIn as bringing;
 ghost use Rattle.convert.specs.Converting as converting;
 ghost use Rattle.pool.specs.Calls as call;
 ghost use Rattle.board.specs.Heard as board;
@@ -28,6 +29,14 @@ pub extern "C" fn pool_convert(pool: &mut [u8], old: u32) -> u64
     ensures { λ r. ⌜ leaves (converting.convert (now (pool .entry)) old) ≡ left (halves r) (now (pool .exit)) ⌝ }
 {
     halves::of(convert::convert(pool, old))
+}
+
+// Brings in a pool that was stored under the rule before 2026-06; answers how many blocks went home.
+#[no_mangle]
+pub extern "C" fn pool_bring_in(pool: &mut [u8]) -> u64
+    ensures { λ r. ⌜ leaves (bringing.bringIn (now (pool .entry))) ≡ left (halves r) (now (pool .exit)) ⌝ }
+{
+    halves::of(bringing::bring_in(pool))
 }
 
 // Whether the pool is sound; answers its length.

@@ -147,7 +147,7 @@ module _ (s : State) where
 module _ (s : State) (bs : List ℕ) (S : Stands s bs) where
   -- on the way the pool stands for the same blocks and lists
   pub there-stands : (t : ℕ) → (t ≡ 1) ⊎ (t ≡ 13) → Stands (withTop t s) (there s t bs)
-  there-stands t e = write-stands (withTop t s) (formed s (S .well-formed) t e) bs (S .ends)
+  there-stands t e = write-stands (withTop t s) (formed s (S .well-formed) t e) (S .edge) bs (S .ends)
 
   there-long : (t : ℕ) → length (there s t bs) ≡ length bs
   there-long t = length-write (sheet (withTop t s)) bs
@@ -239,6 +239,7 @@ lost s bs S one i r = record {
     other-stands : Stands s other
     other-stands = record {
       well-formed = S .well-formed;
+      edge = S .edge;
       ends = S .ends ∙ sym (length-set bs i x);
       holds = holds-through (sheet s) bs other (length-set bs i x) (S .holds)
           (λ k l. by= k i (λ e. inl (ap (λ (h : ℕ). sheet s (h / 4 * 4)) e ∙ ungoverned s bs S one i r)) (λ n. inr (getD-set-other bs i k x 0 n)));

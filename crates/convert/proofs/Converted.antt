@@ -78,7 +78,7 @@ module _ (bs : List ℕ) (bytes : Bytes bs) (old v : ℕ) (done : convert bs old
   pub after-stands : Stands (relaid (was-served .state) old) after
   after-stands =
       subst (Stands (relaid (was-served .state) old)) (sym after-is)
-      (write-stands _ (formed (was-served .state) (was-served .stands .well-formed) _ (other-top old)) bs (was-served .stands .ends))
+      (write-stands _ (formed (was-served .state) (was-served .stands .well-formed) _ (other-top old)) (was-served .stands .edge) bs (was-served .stands .ends))
 
   pub converted-state : (S : Sound bs) (T : Sound after) → T .state ≡ relaid (S .state) old
   converted-state S T =

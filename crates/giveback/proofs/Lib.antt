@@ -8,5 +8,6 @@ pub mod IntoRemainder
 pub mod RestBytes
 pub mod RunBytes
 pub mod LargeBytes
+pub mod FrontBytes
 pub mod SmallBytes
 pub mod BackBytes

@@ -1,2 +1,3 @@
+pub mod AtEdge
 pub mod Decide
 pub mod Whole

@@ -11,7 +11,7 @@ use Rattle.runs.specs.Contract.{pick-seen, to-seen}
 use Rattle.header.specs.Header.{E, R, false-tests, rest-between, rest-tests}
 use Rattle.runs.specs.Runs.{if-seen, scanned-between, Scanned}
 use Rattle.accept.specs.Inspect.{inspect, scanned, size-tests}
-use Rattle.inspect.specs.Inspection.{inspected}
+use Rattle.inspect.specs.Inspection.{oldInspected}
 use Rattle.lists.specs.Lists.{lists}
 use Rattle.marks.specs.MarkSets.{bitMarks}
 use Rattle.guards.specs.Tests.{guard, holds, pass, same}
@@ -25,16 +25,16 @@ pick-allowed : (n : ℕ) {b : Bool} → b ≡ allowed n → not b ≡ false → 
 pick-allowed n e h = guard-yes (holds (allowed n) ∷ []) false true (passed e h, tt)
 
 module _ (s : List ℕ) where
-  pub not-allowed : {b : Bool} → b ≡ allowed (length s) → not b ≡ true → false ≡ inspected s
-  unfolding inspected inspect
+  pub not-allowed : {b : Bool} → b ≡ allowed (length s) → not b ≡ true → false ≡ oldInspected s
+  unfolding oldInspected inspect
   not-allowed e h = sym (guard-fail (size-tests s) false _ (sym (pass-no (size-tests s) (λ t. off (e ∙ t .0) h))))
 
   module _ {a b : ℕ} (ea : a ≡ wordAt 4 s 16) (eb : b ≡ wordAt 4 s 24) where
     rest-at : {x : Bool} → x ≡ pass (rest-between s a b) → x ≡ pass (rest-tests s)
     rest-at e = e ∙ (λ i. pass (rest-between s (ea i) (eb i)))
 
-    pub rest-bad : {x : Bool} → x ≡ pass (rest-between s a b) → not x ≡ true → false ≡ inspected s
-    unfolding inspected inspect
+    pub rest-bad : {x : Bool} → x ≡ pass (rest-between s a b) → not x ≡ true → false ≡ oldInspected s
+    unfolding oldInspected inspect
     rest-bad e h = sym (guard-same (size-tests s) false _ (guard-fail (rest-tests s) false _ (sym (rest-at e) ∙ not-true _ h)))
 
     -- what has passed, for the code's differences
@@ -49,33 +49,33 @@ module _ (s : List ℕ) where
     unfolding scanned
     scanned-at e = e ∙ (λ i. scanned-between bitMarks s (ea i) (eb i) (length s) (replicate 128 0))
 
-    front : {v : Scanned (List ℕ)} → v ≡ scanned-between bitMarks s a b (length s) (replicate 128 0) → tail v ≡ false → false ≡ inspected s
-    unfolding inspected inspect
+    front : {v : Scanned (List ℕ)} → v ≡ scanned-between bitMarks s a b (length s) (replicate 128 0) → tail v ≡ false → false ≡ oldInspected s
+    unfolding oldInspected inspect
     front e h = sym (guard-same (size-tests s) false _
         (guard-same (rest-tests s) false _ (guard-same (false-tests s) false _ (ap tail (sym (scanned-at e)) ∙ h))))
 
     module _ (r : Seen) (m' : List ℕ) (e : to-seen r m' ≡ scanned-between bitMarks s a b (length s) (replicate 128 0)) where
-      pub run-bad : not (r .ok) ≡ true → false ≡ inspected s
+      pub run-bad : not (r .ok) ≡ true → false ≡ oldInspected s
       run-bad h = front e (ap (λ (c : Bool). tail (pick-seen c (r .count) m' (r .sum))) (not-true (r .ok) h))
 
       module _ (h : not (r .ok) ≡ false) {w : ℕ} (ew : w ≡ wordAt 4 s 0) where
         seen-tail : tail (to-seen r m') ≡ if= (wordAt 4 s 0) (r .sum + (E s - R s) - 4) (lists bitMarks s (r .count) m') false
         seen-tail = ap (λ (c : Bool). tail (pick-seen c (r .count) m' (r .sum))) (not-false (r .ok) h)
 
-        pub free-word-bad : (w ≡ r .sum + (b - a) - 4 → ⊥) → false ≡ inspected s
+        pub free-word-bad : (w ≡ r .sum + (b - a) - 4 → ⊥) → false ≡ oldInspected s
         free-word-bad n =
             front e (seen-tail ∙ if=-no (wordAt 4 s 0) (r .sum + (E s - R s) - 4) _ _ (λ k. n (omega (arith, k))))
 
         pub lists-decide : {t1 t2 t3 x : Bool} → t1 ≡ allowed (length s) → not t1 ≡ false → t2 ≡ pass (rest-between s a b) → not t2 ≡ false
-            → t3 ≡ pass (false-tests s) → not t3 ≡ false → w ≡ r .sum + (b - a) - 4 → x ≡ lists bitMarks s (r .count) m' → x ≡ inspected s
-        unfolding inspected inspect
+            → t3 ≡ pass (false-tests s) → not t3 ≡ false → w ≡ r .sum + (b - a) - 4 → x ≡ lists bitMarks s (r .count) m' → x ≡ oldInspected s
+        unfolding oldInspected inspect
         lists-decide p1 q1 p2 q2 p3 q3 n ex =
             ex ∙ sym (guard-pass (size-tests s) false _ (pick-allowed (length s) p1 q1) ∙ guard-pass (rest-tests s) false _ (passed (rest-at p2) q2)
             ∙ guard-pass (false-tests s) false _ (passed p3 q3) ∙ ap tail (sym (scanned-at e)) ∙ seen-tail
             ∙ if=-yes (wordAt 4 s 0) (r .sum + (E s - R s) - 4) _ _ (omega arith))
 
-  pub false-bad : {x : Bool} → x ≡ pass (false-tests s) → not x ≡ true → false ≡ inspected s
-  unfolding inspected inspect
+  pub false-bad : {x : Bool} → x ≡ pass (false-tests s) → not x ≡ true → false ≡ oldInspected s
+  unfolding oldInspected inspect
   false-bad e h =
       sym (guard-same (size-tests s) false _ (guard-same (rest-tests s) false _ (guard-fail (false-tests s) false _ (sym e ∙ not-true _ h))))
 

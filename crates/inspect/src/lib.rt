@@ -1,9 +1,9 @@
-// Whether a pool is sound: one linear pass over the blocks, one along the lists of the bins.
+// Whether a pool is sound: one linear pass over the blocks, one along the lists of the bins, and the block at E. `reading` asks for all of it.
 // Nothing is believed before it was tested, and every function is total: it may be asked about any bytes.
 ghost use mathlib.Core.Path.{_≡_};
 ghost use Rattle.paper.specs.Allowed.{allowed as allowed-of};
-ghost use Rattle.inspect.specs.Inspection.{inspected};
-ghost use Rattle.inspect.specs.Contract.{Inspected};
+ghost use Rattle.inspect.specs.Inspection.{edgeHeld, oldInspected};
+ghost use Rattle.inspect.specs.Contract.{OldInspected};
 use paper::END;
 use paper::FREE_WORD;
 use paper::START;
@@ -21,16 +21,27 @@ pub fn allowed(n: usize) -> bool
     n % 8 == 0
 }
 
-// Whether the pool is sound: exactly that.
-pub fn sound(pool: &[u8]) -> bool
-    ensures { λ r. ⌜ Inspected r (now (pool .entry)) ⌝ }
+// Whether the pool is sound by the old rule, under which a free block could stand at E: exactly that. The rule in force asks one thing more.
+pub fn sound_by_old_rule(pool: &[u8]) -> bool
+    ensures { λ r. ⌜ OldInspected r (now (pool .entry)) ⌝ }
 {
     inspect(pool)
 }
 
-// The tests, the cheap ones first. A mark is one bit for each 8 bytes of the pool.
+// Whether the pool ends at E or the block there is held (request 2026-06): of a pool that is sound by the old rule, exactly whether it is sound.
+pub fn edge_held(pool: &[u8]) -> bool
+    ensures { λ r. ⌜ r ≡ edgeHeld (now (pool .entry)) ⌝ }
+{
+    let e = words::get32(pool, END) as usize;
+    if e == pool.len() {
+        return true;
+    }
+    heads::apart(words::get32(pool, e)).held
+}
+
+// The tests of the old rule, the cheap ones first. A mark is one bit for each 8 bytes of the pool.
 fn inspect(pool: &[u8]) -> bool
-    ensures { λ r. ⌜ r ≡ inspected (now (pool .entry)) ⌝ }
+    ensures { λ r. ⌜ r ≡ oldInspected (now (pool .entry)) ⌝ }
 {
     if !allowed(pool.len()) {
         return false;

@@ -9,7 +9,7 @@ use lib.ListN.{length}
 use Rattle.heads.specs.Heads.{freeHead, wordOf}
 use Rattle.heads.specs.Links.{linkWord}
 use Rattle.paper.proofs.bins.Seek.{seek-zero}
-use Rattle.paper.proofs.keeps.FreshSound.{fresh-ends, fresh-well-formed}
+use Rattle.paper.proofs.keeps.FreshSound.{fresh-edge, fresh-ends, fresh-well-formed}
 use Rattle.paper.proofs.reads.RoundTrip.{write-stands}
 use Rattle.paper.proofs.reads.Stands.{Stands}
 use Rattle.paper.specs.Allowed.{Allowed}
@@ -146,4 +146,4 @@ module _ (bs : List ℕ) (A : Allowed (length bs)) (t : ℕ) where
   pub laid-out-stands : (t ≡ 1) ⊎ (t ≡ 13) → Stands (fresh t (length bs)) (layOut bs (length bs) t)
   laid-out-stands l =
       subst (Stands (fresh t (length bs))) (sym laid-out)
-      (write-stands (fresh t (length bs)) (fresh-well-formed t (length bs) A l) bs (fresh-ends t (length bs) A))
+      (write-stands (fresh t (length bs)) (fresh-well-formed t (length bs) A l) (fresh-edge t (length bs)) bs (fresh-ends t (length bs) A))

@@ -3,6 +3,7 @@ pub mod runs
 pub mod bins
 pub mod steps
 pub mod reads
+pub mod home
 pub mod keeps
 pub mod honest
 pub mod cases

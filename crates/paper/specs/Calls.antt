@@ -15,7 +15,7 @@ use Rattle.paper.specs.Blocks.{State, blocks}
 use Rattle.paper.specs.Runs.{sumOf}
 use Rattle.paper.specs.Sheet.{write}
 use Rattle.paper.specs.Governed.{sheet}
-use Rattle.paper.specs.Sound.{Sound}
+use Rattle.paper.specs.Sound.{Edge, SoundBy}
 use Rattle.paper.specs.Fresh.{fresh, layoutTop}
 use Rattle.paper.specs.Granting.{Result, take}
 use Rattle.paper.specs.GivingBack.{ask, giveBack}
@@ -30,10 +30,14 @@ pub data Reading : Type 0 where
   sound : State → Reading
 
 -- exactly one of them is what the bytes are: n is not allowed; it is and the pool is not sound; or it is sound, with these blocks and lists
+abbrev pub ReadsBy : (State → Type 0) → List ℕ → Reading → Type 0
+ReadsBy Rule bs misfit = Allowed (length bs) → ⊥
+ReadsBy Rule bs broken = Allowed (length bs) × (SoundBy Rule bs → ⊥)
+ReadsBy Rule bs (sound s) = (S : SoundBy Rule bs) × (S .state ≡ s)
+
+-- by the rule in force; every call but bring-in reads so
 abbrev pub Reads : List ℕ → Reading → Type 0
-Reads bs misfit = Allowed (length bs) → ⊥
-Reads bs broken = Allowed (length bs) × (Sound bs → ⊥)
-Reads bs (sound s) = (S : Sound bs) × (S .state ≡ s)
+Reads bs r = ReadsBy Edge bs r
 
 -- "Tests run in the order 1, 2, then the call's own": refused with the reading's number, or served from the blocks and lists that were read
 module _ {A : Type 0} where

@@ -9,13 +9,14 @@ use Rattle.paper.specs.Blocks.{free, Block, block, State}
 use Rattle.paper.specs.Bins.{rebin, enter, leave}
 use Rattle.paper.specs.Runs.{under, replace, startsAt, endsAt, freeSize}
 use Rattle.paper.specs.Granting.{Result, refused, R, E}
+use Rattle.paper.specs.GoingHome.{goHome}
 use Rattle.paper.specs.LookingUp.{lookUp, byOffset}
 
 -- "Ask returns the payload bytes, block size less 4"
 unfoldable pub ask : State → ℕ → Answer
 ask s offset = byOffset (lookUp s offset) offset Refused (λ q z. Done (z - 4))
 
--- "Small: put at the front of its bin."
+-- "Small: put at the front of its bin." What then stands at E may go home.
 unfoldable pub giveBackSmall : State → ℕ → ℕ → State
 giveBackSmall s q z =
     record {
@@ -55,4 +56,4 @@ unfoldable pub giveBack : State → ℕ → Result
 giveBack s offset =
     byOffset (lookUp s offset) offset
     (λ k. refused k s)
-    (λ q z. record { answer = Done (z - 4); state = if< z large (giveBackSmall s q z) (giveBackLarge s q z) })
+    (λ q z. record { answer = Done (z - 4); state = if< z large (goHome (giveBackSmall s q z)) (giveBackLarge s q z) })

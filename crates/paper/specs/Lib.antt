@@ -11,6 +11,7 @@ pub mod Fresh
 pub mod Granting
 pub mod LargestGrant
 pub mod LookingUp
+pub mod GoingHome
 pub mod GivingBack
 pub mod AskingAll
 pub mod Counting

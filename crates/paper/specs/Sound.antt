@@ -35,6 +35,13 @@ High (block z held ∷ xs) = (z ≤ 64) × High xs
 High (block z free ∷ xs) = (z ≤ 64) × High xs
 High (block z remainder ∷ xs) = ⊥
 
+-- "E = n or a held block at E" (request 2026-06), of the small blocks from E on
+abbrev pub HeldFirst : List Block → Type 0
+HeldFirst [] = Unit {0}
+HeldFirst (block z held ∷ xs) = Unit {0}
+HeldFirst (block z free ∷ xs) = ⊥
+HeldFirst (block z remainder ∷ xs) = ⊥
+
 -- how many free blocks of size y start at q, of the blocks from p on: at most one
 unfoldable pub freeAt : List Block → ℕ → ℕ → ℕ → ℕ
 freeAt [] p y q = 0
@@ -52,13 +59,28 @@ pub record WellFormed (s : State) : Type 0 where
   pub fits : end s ≤ 65536
   pub listed : (y q : ℕ) → count q (s .bins y) ≡ freeAt (blocks s) blocks-at y q
 
+-- what is asked of the block at E: by the rule in force, and by the old rule, under which it could be free
+abbrev pub Edge : State → Type 0
+Edge s = HeldFirst (s .high)
+
+abbrev pub OldEdge : State → Type 0
+OldEdge s = Unit {0}
+
 -- the blocks and lists are those of `state`, which the bytes determine; it tells the layout
-pub record Sound (bs : List ℕ) : Type 0 where
+pub record SoundBy (Rule : State → Type 0) (bs : List ℕ) : Type 0 where
   pub length-allowed : Allowed (length bs)
   pub state : State
   pub well-formed : WellFormed state
+  pub edge : Rule state
   pub ends : end state ≡ length bs
   pub holds : Holds (sheet state) bs
+
+abbrev pub Sound : List ℕ → Type 0
+Sound bs = SoundBy Edge bs
+
+-- "a pool sound under the old rule": for bring-in alone
+abbrev pub OldSound : List ℕ → Type 0
+OldSound bs = SoundBy OldEdge bs
 
 -- "The false block's level word tells the layouts apart" (request 2026-04)
 abbrev pub levelWord : List ℕ → ℕ

@@ -152,6 +152,7 @@ fn dump(pool: &[u8]) -> bool {
 fn on_pool(pool: &mut [u8], body: &mut [u8], bank: &mut [u32; 32], letter: u8) -> Outcome {
     match letter {
         b'L' => ended(output::line(b'L', pool::lay_out(pool, 1))),
+        b'H' => ended(output::line(b'H', bringing::bring_in(pool))),
         b'N' => ended(output::line(b'N', pool::inspect(pool))),
         b'S' => ended(output::tally(pool::figures(pool))),
         b'D' => ended(dump(pool)),

@@ -1,2 +1,4 @@
+pub mod Tested
 pub mod Readings
+pub mod Reasons
 pub mod Asked

@@ -24,7 +24,7 @@ use Rattle.paper.specs.Governed.{sheet}
 use Rattle.paper.specs.Granting.{Result, take as takeOf}
 use Rattle.paper.specs.Sheet.{write}
 use Rattle.paper.proofs.keeps.BackKeeps.{giveBack-keeps}
-use Rattle.paper.proofs.keeps.FreshSound.{fresh-ends, fresh-well-formed}
+use Rattle.paper.proofs.keeps.FreshSound.{fresh-edge, fresh-ends, fresh-well-formed}
 use Rattle.paper.proofs.keeps.Kept.{Kept}
 use Rattle.paper.proofs.keeps.KeptStands.{kept-stands}
 use Rattle.paper.proofs.keeps.TakeKeeps.{take-keeps}
@@ -246,7 +246,7 @@ module _ (room : ℕ) (p : Pool) (m : Option State) (S : StandsFor room p m) (la
           (answers new (out (Done new) (write (sheet (fresh t new)) bs ++ drop new (p .buffer)))) (layState t true new m)
           (served ∙ ap (laidOut new (p .n)) (in-the-buffer lay new (p .buffer) l g)) (stated ∙ f ∙ ap (λ (b : Bool). layState t b new m) e) refl
           (written-for room new (p .buffer) (fresh t new) (S .bytes) (S .long) l
-          (write-stands (fresh t new) (fresh-well-formed t new a tops) bs (fresh-ends t new a ∙ sym k)))
+          (write-stands (fresh t new) (fresh-well-formed t new a tops) (fresh-edge t new) bs (fresh-ends t new a ∙ sym k)))
 
 -- of an empty pool
 module _ (room : ℕ) (p : Pool) (S : StandsFor room p none) where

@@ -16,10 +16,11 @@ const KINDS: [&str; 3] = ["kind 1", "kind 2", "kind 3"];
 
 /// Every branch in the order of the table; `@` stands for each call, `~` for each place of an
 /// offset that is not held, `#` and `%` for each kind.
-const NAMES: [&str; 44] = [
+const NAMES: [&str; 46] = [
     "@: refused 1",
     "@: refused 1, the piston is above 31 too",
     "@: refused 2",
+    "@: refused 2, for a free block at E alone",
     "@: refused 2, the piston is above 31 too",
     "@: refused 2, one offset stands twice too",
     "@: refused 10, piston 32",
@@ -53,6 +54,7 @@ const NAMES: [&str; 44] = [
     "clear: #",
     "clear: what does not read",
     "clear: a large block",
+    "clear: the block goes home",
     "recall: an empty piston",
     "recall: #",
     "recall: # in a longer payload",
@@ -88,7 +90,12 @@ impl Counts {
     pub fn observe(&mut self, before: &Bench, call: &Call, refused: Option<Refusal>) {
         let state = match calls::state_of(&before.pool) {
             Ok(state) => state,
-            Err(refusal) => return self.no_pool(&before.bank, call, refusal),
+            Err(refusal) => {
+                if refusal == Refusal::NotSound && calls::old_state_of(&before.pool).is_ok() {
+                    self.add(call, "refused 2, for a free block at E alone");
+                }
+                return self.no_pool(&before.bank, call, refusal);
+            }
         };
         let wrong = !fits(&before.bank, &state);
         match (refused, call) {
@@ -104,7 +111,12 @@ impl Counts {
             (None, Call::Set(_, kind, body)) => self.set(before, &state, call, *kind, body.len()),
             (None, Call::Clear(_)) => match old_block(before, &state, call) {
                 None => self.add(call, "an empty piston"),
-                Some(block) => self.add(call, &content(&before.pool, block)),
+                Some(block) => {
+                    self.add(call, &content(&before.pool, block));
+                    if block.start == state.remainder_end() {
+                        self.add(call, "the block goes home");
+                    }
+                }
             },
             (None, Call::Recall(_)) => self.recall(before, &state, call),
         }

@@ -10,7 +10,7 @@ use crate::script::Script;
 /// W an offset and the bytes, in hex, `-` for none.
 type Steps = &'static [(&'static str, &'static str)];
 
-const BY_HAND: [(&str, Steps); 10] = [
+const BY_HAND: [(&str, Steps); 11] = [
     (
         "set, recall, set again, clear",
         &[
@@ -43,7 +43,8 @@ const BY_HAND: [(&str, Steps); 10] = [
             ("R 0", "R 0 0 -"),
             ("Q 0", "Q 0 1024"),
             ("R 31", "R 0 9 01b1b2b3b4b5b6b7b8"),
-            ("S", "S 0 1 16 2 0 776 836 764"),
+            // 944 stood at E, and 968 above it was free: both are home.
+            ("S", "S 0 1 16 0 0 840 836 828"),
         ],
     ),
     (
@@ -190,8 +191,9 @@ const BY_HAND: [(&str, Steps); 10] = [
             ("W 988 ff", "W 0 20 20"),
             ("Q 1", "Q 0 1024"),
             ("W 1012 ff", "W 0 12 12"),
+            // 984 is home again, so the block is cut at 992.
             ("K 0 1 b1b2b3b4b5b6b7b8", "K 0 1024"),
-            ("V", "V 0 32 972 .."),
+            ("V", "V 0 32 996 .."),
             ("R 0", "R 0 9 01b1b2b3b4b5b6b7b8"),
         ],
     ),
@@ -220,6 +222,8 @@ const BY_HAND: [(&str, Steps); 10] = [
             ("I 1024", "I 0 1024"),
             ("L", "L 0 1024"),
             ("K 0 1 a1a2a3a4a5a6a7a8", "K 0 1024"),
+            // The block at E is held, so that the other one stays.
+            ("T 4", "T 0 1004"),
             ("G 1012", "G 0 12"),
             ("R 0", "R 12 0 -"),
             ("Q 0", "Q 12 0"),
@@ -232,6 +236,20 @@ const BY_HAND: [(&str, Steps); 10] = [
             ("Q 0", "Q 0 1024"),
             ("G 1012", "G 5 0"),
             ("V", "V 0 32 .."),
+        ],
+    ),
+    (
+        "a block that another sends home and takes again",
+        &[
+            ("I 1024", "I 0 1024"),
+            ("L", "L 0 1024"),
+            ("K 0 1 a1a2a3a4a5a6a7a8", "K 0 1024"),
+            ("G 1012", "G 0 12"),
+            ("S", "S 0 0 0 0 0 856 852 844"),
+            ("R 0", "R 12 0 -"),
+            ("T 12", "T 0 1012"),
+            // No byte of a block that goes home is touched, so the record reads as before.
+            ("R 0", "R 0 9 01a1a2a3a4a5a6a7a8"),
         ],
     ),
     (
@@ -282,7 +300,7 @@ pub fn cases() -> Vec<ProbeCase> {
     cases
 }
 
-fn case(name: &str, steps: &[(&str, &str)]) -> ProbeCase {
+pub fn case(name: &str, steps: &[(&str, &str)]) -> ProbeCase {
     let mut script = Script::new();
     let mut lines = String::new();
     for (command, line) in steps {
@@ -340,7 +358,8 @@ fn every_byte() -> ProbeCase {
     }
     pool[180..189].copy_from_slice(&[1, 0xa1, 0xa2, 0xa3, 0xa4, 0xa5, 0xa6, 0xa7, 0xa8]);
     let set = dump(&pool);
-    for (at, word) in [(0, 20), (40, 176), (176, 4 * 16 + 2), (180, 0)] {
+    // The block stood at E: its head and its payload stay as they were.
+    for (at, word) in [(0, 20), (24, 192), (168, 4 * 24 + 2)] {
         put4(&mut pool, at, word);
     }
     let cleared = dump(&pool);
@@ -364,7 +383,8 @@ fn every_byte() -> ProbeCase {
     )
 }
 
-fn dump(pool: &[u8]) -> String {
+/// The line of a D.
+pub fn dump(pool: &[u8]) -> String {
     let hex: String = pool.iter().map(|byte| format!("{:02x}", byte)).collect();
     format!("D 0 {} {}", pool.len(), hex)
 }

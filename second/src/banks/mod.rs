@@ -45,13 +45,14 @@ impl Call {
     }
 }
 
-pub const GROUPS: [Group<Counts>; 8] = [
+pub const GROUPS: [Group<Counts>; 9] = [
     ("banks on fresh pools", 400, runs::fresh),
     ("banks beside other users", 300, runs::shared),
     ("banks on pools that are moved", 120, runs::moved),
     ("wrong banks", 300, wrong::banks),
     ("banks with records that do not read", 200, wrong::records),
     ("banks on damaged images", 500, wrong::pools),
+    ("banks on pools that are brought in", 120, wrong::old),
     ("banks in the order of refusals", 16, wrong::order),
     ("banks on extreme images", EXTREMES as u64, wrong::extreme),
 ];
@@ -144,6 +145,12 @@ impl<'a> Maker<'a> {
         self.bench.serve(Command::Convert(old));
         let law = self.log.as_ref().map_or(Ok(()), |log| log.shown(&self.bench));
         self.faults.extend(law.err().map(|why| format!("Y {}: {}", old, why)));
+    }
+
+    /// Bringing in, behind which the bank is the same.
+    fn bring_in(&mut self) {
+        self.script.plain(b'H').plain(b'D').plain(b'V');
+        self.bench.serve(Command::BringIn);
     }
 
     /// What these pistons show, and all that are not empty.

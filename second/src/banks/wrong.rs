@@ -7,7 +7,7 @@ use crate::bank::{Bank, PISTONS};
 use crate::calls;
 use crate::cases::LawCase;
 use crate::damage;
-use crate::images::{extreme_states, of_either_layout, random_image};
+use crate::images::{extreme_states, of_either_layout, random_image, random_old_image};
 use crate::layout;
 use crate::random::Random;
 use crate::rules;
@@ -173,6 +173,30 @@ pub fn pools(seed: u64, number: u64, counts: &mut Counts) -> LawCase {
         maker.any_call(&habits);
     }
     maker.finish(format!("seed {}, damaged image {} with a bank ({})", seed, number, damaged.sort))
+}
+
+/// A pool by the rule before request 2026-06 with a bank that names some of its held blocks: every
+/// call is refused where a free block stands at E, and behind bringing in each serves.
+pub fn old(seed: u64, number: u64, counts: &mut Counts) -> LawCase {
+    let mut random = Random::of_case(seed, 31, number);
+    let n = random.between(40, 200) * 8;
+    let (state, mut bytes) = random_old_image(&mut random, n);
+    let bank = adopted(&mut random, &state, &mut bytes, PISTONS);
+    let mut pistons = named(&bank);
+    pistons.push(5);
+    let habits = Habits { pistons, sets: 40, clears: 40, odd: 5 };
+    let mut maker = Maker::new(random, counts);
+    maker.image(&bytes);
+    maker.put_bank(bank);
+    for _ in 0..4 {
+        maker.any_call(&habits);
+    }
+    maker.bring_in();
+    maker.recall_all(&[]);
+    for _ in 0..6 {
+        maker.any_call(&habits);
+    }
+    maker.finish(format!("seed {}, old image {} with a bank, {} bytes", seed, number, n))
 }
 
 /// Every refusal with every other: pool, piston, bank, record and room, each good and bad.

@@ -3,7 +3,7 @@
 use super::Patient;
 use crate::layout::{self, get4, head, put8, E_WORD, R_WORD};
 use crate::random::Random;
-use crate::state::{State, GREATEST_POOL};
+use crate::state::{Block, State, GREATEST_POOL, LEAST_REMAINDER};
 
 pub fn start_moved(p: &mut Patient, random: &mut Random) -> Option<()> {
     let starts: Vec<usize> = p.state.blocks().map(|block| block.start).collect();
@@ -58,6 +58,36 @@ pub fn end_moved_well(p: &mut Patient, random: &mut Random) -> Option<()> {
     if to < e {
         p.set(to, head(e - to, true, true));
     }
+    Some(())
+}
+
+/// Sound by the rule before request 2026-06 alone, as are the next two.
+pub fn edge_freed(p: &mut Patient, random: &mut Random) -> Option<()> {
+    edge_run(p, random, 1)
+}
+
+pub fn edge_run_freed(p: &mut Patient, random: &mut Random) -> Option<()> {
+    let count = random.between(1, p.state.high.len().max(1));
+    edge_run(p, random, count)
+}
+
+fn edge_run(p: &mut Patient, random: &mut Random, count: usize) -> Option<()> {
+    let mut high = p.state.high.clone();
+    high.first()?;
+    high.iter_mut().take(count).for_each(|block| block.held = false);
+    p.set_high(random, high);
+    Some(())
+}
+
+pub fn edge_cut(p: &mut Patient, random: &mut Random) -> Option<()> {
+    let size = 8 * random.between(1, 8);
+    if p.state.remainder_size() < size + LEAST_REMAINDER {
+        return None;
+    }
+    let start = p.state.remainder_end() - size;
+    let mut high = p.state.high.clone();
+    high.insert(0, Block { start, size, held: false });
+    p.set_high(random, high);
     Some(())
 }
 

@@ -8,7 +8,7 @@ mod index;
 mod lists;
 mod words;
 
-use crate::images::{bins_in_any_order, random_image};
+use crate::images::{bins_in_any_order, random_image, random_old_image};
 use crate::layout::{self, distance, get8, put4, put8, FREE_WORD, NEXT, PREVIOUS};
 use crate::random::Random;
 use crate::state::{Block, State, LOW_RUN};
@@ -22,7 +22,7 @@ pub struct Patient {
 /// Nothing where the image lacks what the damage needs.
 type Sort = fn(&mut Patient, &mut Random) -> Option<()>;
 
-pub const SORTS: [(&str, Sort); 64] = [
+pub const SORTS: [(&str, Sort); 67] = [
     ("bit flipped in a governed word", words::bit_flipped),
     ("governed word changed", words::word_changed),
     ("governed words swapped", words::words_swapped),
@@ -52,6 +52,9 @@ pub const SORTS: [(&str, Sort); 64] = [
     ("R moved with the words for it", ends::start_moved_well),
     ("E moved", ends::end_moved),
     ("E moved with the words for it", ends::end_moved_well),
+    ("block at E made free with all its words", ends::edge_freed),
+    ("run of blocks at E made free with all their words", ends::edge_run_freed),
+    ("free block cut from the remainder's end", ends::edge_cut),
     ("high half of an opening word", words::high_half),
     ("second opening word not 96", words::second_word),
     ("level word wrong", words::level_changed),
@@ -96,11 +99,22 @@ pub struct Damaged {
     pub offset: u32,
 }
 
+/// What makes a sound image of so many bytes.
+type Make = fn(&mut Random, usize) -> (State, Vec<u8>);
+
 /// The numbered damaged image; the sorts take turns, and one in eight gets a second damage.
 pub fn damaged(seed: u64, number: u64) -> Damaged {
-    let mut random = Random::of_case(seed, 4, number);
+    damaged_from(Random::of_case(seed, 4, number), number, random_image)
+}
+
+/// The same from an image that is sound by the rule before request 2026-06.
+pub fn damaged_old(seed: u64, number: u64) -> Damaged {
+    damaged_from(Random::of_case(seed, 23, number), number, random_old_image)
+}
+
+fn damaged_from(mut random: Random, number: u64, make: Make) -> Damaged {
     let (name, sort) = SORTS[number as usize % SORTS.len()];
-    let mut patient = suitable(&mut random, sort);
+    let mut patient = suitable(&mut random, sort, make);
     if random.chance(1, 8) && patient.bytes.len() == patient.state.n {
         let (_, more) = SORTS[random.below(4)];
         more(&mut patient, &mut random);
@@ -111,11 +125,11 @@ pub fn damaged(seed: u64, number: u64) -> Damaged {
 }
 
 /// Tries images until one has what the sort of damage needs.
-fn suitable(random: &mut Random, sort: Sort) -> Patient {
+fn suitable(random: &mut Random, sort: Sort, make: Make) -> Patient {
     loop {
         let top = *random.pick(&[60, 150, 300, 400]);
         let n = random.between(22, top) * 8;
-        let (state, bytes) = random_image(random, n);
+        let (state, bytes) = make(random, n);
         let mut patient = Patient { state, bytes };
         if sort(&mut patient, random).is_some() {
             return patient;

@@ -1,4 +1,4 @@
--- The definitions tried: over a patterned buffer the sheets of twelve small pools are byte for byte what the second program writes.
+-- The definitions tried: over a patterned buffer the sheets of fourteen small pools are byte for byte what the second program writes.
 use mathlib.Core.Path.{_≡_, refl}
 use mathlib.Core.List.{List, [], _∷_, map}
 use Prim.Native.Nat.{ℕ, zero, suc, _+_, _*_, _%_}

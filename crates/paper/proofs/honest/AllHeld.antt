@@ -6,7 +6,7 @@ use Prim.Native.Nat.{_+_, _≤_, ℕ}
 use Rattle.paper.proofs.reads.Unique.{NoRemainder}
 use Rattle.paper.specs.Blocks.{Block, block, free, held, remainder}
 use Rattle.paper.specs.Layout.{large}
-use Rattle.paper.specs.Sound.{Low, freeAt}
+use Rattle.paper.specs.Sound.{HeldFirst, Low, freeAt}
 
 abbrev pub AllHeld : List Block → Type 0
 AllHeld [] = Unit {0}
@@ -53,3 +53,10 @@ held-first [] h = inl refl
 held-first (block z held ∷ xs) h = inr (z, xs, refl)
 held-first (block z free ∷ xs) h = absurd h
 held-first (block z remainder ∷ xs) h = absurd h
+
+-- and the edge of such a run is held
+pub held-edge : (xs : List Block) → AllHeld xs → HeldFirst xs
+held-edge [] h = tt
+held-edge (block z held ∷ xs) h = tt
+held-edge (block z free ∷ xs) h = absurd h
+held-edge (block z remainder ∷ xs) h = absurd h

@@ -8,7 +8,7 @@ use Prim.Native.Nat.{ℕ}
 use lib.ListN.{length}
 use Rattle.paper.proofs.reads.Allowed.{allowed-yes}
 use Rattle.paper.proofs.keeps.BackKeeps.{giveBack-keeps}
-use Rattle.paper.proofs.keeps.FreshSound.{fresh-ends, fresh-well-formed}
+use Rattle.paper.proofs.keeps.FreshSound.{fresh-edge, fresh-ends, fresh-well-formed}
 use Rattle.paper.proofs.keeps.Kept.{Kept}
 use Rattle.paper.proofs.keeps.KeptStands.{kept-stands}
 use Rattle.paper.proofs.reads.RoundTrip.{write-stands}
@@ -64,7 +64,7 @@ laid-out-sound bs a h layout l =
     let t = layoutTop layout in
     subst (SoundBytes t) (sym (laid-out-writes bs a layout l))
     (stands-to (fresh t (length bs)) (write (sheet (fresh t (length bs))) bs)
-    (write-stands (fresh t (length bs)) (fresh-well-formed t (length bs) a (named-top layout l)) bs (fresh-ends t (length bs) a))
+    (write-stands (fresh t (length bs)) (fresh-well-formed t (length bs) a (named-top layout l)) (fresh-edge t (length bs)) bs (fresh-ends t (length bs) a))
     (write-bytes (sheet (fresh t (length bs))) bs h) t refl)
 
 -- ---- a call

@@ -57,7 +57,7 @@ module _ (s : State) (p : List ℕ) (S : Stands s p) (u : Undone s) where
   earlier = write (sheet (u .before)) p
 
   earlier-stands : Stands (u .before) earlier
-  earlier-stands = write-stands (u .before) (u .kept .well-formed) p (u .kept .ends ∙ S .ends)
+  earlier-stands = write-stands (u .before) (u .kept .well-formed) (u .kept .edge (S .edge)) p (u .kept .ends ∙ S .ends)
 
   -- the words of s over it are these very bytes
   written-again : write (sheet s) earlier ≡ p
@@ -103,7 +103,7 @@ module _ (layout : ℕ) (named : (layout ≡ 1) ⊎ (layout ≡ 2)) where
   HonestUnder m = (s : State) (p : List ℕ) → suc (weight s) ≡ m → Stands s p → s .top ≡ layoutTop layout → Bytes p → Honest layout p
 
   by-weight : (m : ℕ) → HonestUnder m → (s : State) (p : List ℕ) → weight s ≡ m → Stands s p → s .top ≡ layoutTop layout → Bytes p → Honest layout p
-  by-weight m below s p w S t h = go (undo s (S .well-formed))
+  by-weight m below s p w S t h = go (undo s (S .well-formed) (S .edge))
     where
       go : Undone s ⊎ Bare s → Honest layout p
       go (inl u) =

@@ -1,18 +1,19 @@
--- A small give-back undone: the first block of a small bin is held in the state before.
+-- A small give-back undone: the first block of a small bin is held in the state before. Given back, it stays in its bin: a held block is at E.
 use mathlib.Core.List.{List, [], _++_, _∷_, append-assoc}
 use mathlib.Core.Logic.{inr}
 use mathlib.Core.Path.{_∙_, _≡_, ap, refl, subst, sym}
 use Prim.Native.Nat.{_+_, _-_, _<_, _^_, suc, ℕ}
 use native.Mathlib.Omega.{arith}
+use Rattle.paper.proofs.home.GoneHome.{goHome-same}
 use Rattle.paper.proofs.runs.Asking.{heldAt-in}
 use Rattle.paper.proofs.keeps.BackKeeps.{giveBack-small}
 use Rattle.paper.proofs.keeps.BackSmallKeeps.{giveBackSmall-is}
 use Rattle.paper.proofs.bins.Bins.{count-cons, count-here}
 use Rattle.paper.proofs.runs.HeldPlaces.{HeldHigh, heldAt}
 use Rattle.paper.proofs.runs.HeldWalk.{held-in}
-use Rattle.paper.proofs.keeps.Kept.{Kept, end-runs, kept-high, sized-high}
+use Rattle.paper.proofs.keeps.Kept.{Kept, end-runs, kept-shaped, shaped-high, sized-high}
 use Rattle.paper.proofs.bins.Listed.{rebin-same}
-use Rattle.paper.proofs.runs.LowHigh.{high-hold, high-parts}
+use Rattle.paper.proofs.runs.LowHigh.{edge-hold, high-hold, high-parts}
 use Rattle.paper.proofs.runs.Places.{listed-in-high}
 use Rattle.paper.proofs.runs.Splitting.{freeAt-mid, in-parts, sized-mid, sized-mid-parts, sumOf-append, total-mid}
 use Rattle.paper.proofs.honest.UndoBins.{count-rebin-less, rebin-back, rebin-fewer, rebin-small-firsts}
@@ -21,15 +22,16 @@ use Rattle.paper.proofs.sheet.Within.{Within, walk-within-held, within-
 use Rattle.paper.specs.Bins.{count, rebin}
 use Rattle.paper.specs.Blocks.{Block, State, block, blocks, end, free, held, remainder, total}
 use Rattle.paper.specs.GivingBack.{giveBack, giveBackSmall}
+use Rattle.paper.specs.GoingHome.{goHome}
 use Rattle.paper.specs.Governed.{blockWord, sheet, walk}
 use Rattle.paper.specs.Granting.{E}
 use Rattle.paper.specs.Honest.{gives}
 use Rattle.paper.specs.Layout.{blocks-at, large}
 use Rattle.paper.specs.Runs.{sumOf}
-use Rattle.paper.specs.Sound.{High, Sized, WellFormed, freeAt}
+use Rattle.paper.specs.Sound.{Edge, HeldFirst, High, Sized, WellFormed, freeAt}
 use Rattle.words.specs.Choice.{if=}
 
-module _ (s : State) (W : WellFormed s) (z x : ℕ) (l : List ℕ) (small : z < large) (listed : s .bins z ≡ x ∷ l)
+module _ (s : State) (W : WellFormed s) (g : Edge s) (z x : ℕ) (l : List ℕ) (small : z < large) (listed : s .bins z ≡ x ∷ l)
     (us vs : List Block) (is : s .high ≡ us ++ block z free ∷ vs) (starts : E s + total us ≡ x) where
   abbrev before : State
   before = record { top = s .top; low = s .low; rest = s .rest; high = us ++ block z held ∷ vs; bins = rebin (s .bins) z l }
@@ -43,7 +45,8 @@ module _ (s : State) (W : WellFormed s) (z x : ℕ) (l : List ℕ) (small : z < 
   kept : Kept s before
   unfolding freeAt
   kept =
-      kept-high s W (us ++ block z held ∷ vs) (rebin (s .bins) z l) (high-hold us z vs (subst High is (W .high-ok)))
+      kept-shaped s before
+      (shaped-high s W (us ++ block z held ∷ vs) (rebin (s .bins) z l) (high-hold us z vs (subst High is (W .high-ok)))
       (sized-mid us (block z held ∷ []) vs (parts .0) (parts .1) (parts .2))
       (omega (arith, ap total is, total-mid us (block z free ∷ []) vs, total-mid us (block z held ∷ []) vs))
       (λ y q. omega (
@@ -52,7 +55,8 @@ module _ (s : State) (W : WellFormed s) (z x : ℕ) (l : List ℕ) (small : z < 
         ap (λ (k : List Block). freeAt k (E s) y q) is,
         freeAt-mid us (block z free ∷ []) vs (E s) x (x + z) y q starts (omega arith),
         freeAt-mid us (block z held ∷ []) vs (E s) x (x + z) y q starts (omega arith),
-      ))
+      )))
+      (λ h. edge-hold us z (block z free ∷ vs) vs (subst HeldFirst is h))
 
   abbrev is-held : HeldHigh before x z
   is-held =
@@ -67,9 +71,11 @@ module _ (s : State) (W : WellFormed s) (z x : ℕ) (l : List ℕ) (small : z < 
       let b : rebin (rebin (s .bins) z l) z (x ∷ rebin (s .bins) z l z) ≡ s .bins =
       ap (λ (k : List ℕ). rebin (rebin (s .bins) z l) z (x ∷ k)) (rebin-same (s .bins) z l) ∙ rebin-back (s .bins) z l (x ∷ l) listed in
       giveBack-small before (kept .well-formed) (x + 4) (omega (arith, found, parts .1 .0)) (omega (arith, found))
-      ∙ (λ i. giveBackSmall before (e i) (found i))
-      ∙ giveBackSmall-is before (kept .well-formed) x z is-held
-      ∙ (λ i. record { top = s .top; low = s .low; rest = s .rest; high = sym is i; bins = b i })
+      ∙ (λ i. goHome (giveBackSmall before (e i) (found i)))
+      ∙ ap goHome
+      (giveBackSmall-is before (kept .well-formed) x z is-held
+      ∙ (λ i. record { top = s .top; low = s .low; rest = s .rest; high = sym is i; bins = b i }))
+      ∙ goHome-same s g
 
   -- every block below the one that is given back
   abbrev below : List Block
@@ -123,8 +129,8 @@ module _ (s : State) (W : WellFormed s) (z x : ℕ) (l : List ℕ) (small : z < 
         lighter = lighter;
       }
 
-pub undo-small : (s : State) → WellFormed s → (z x : ℕ) (l : List ℕ) → z < large → s .bins z ≡ x ∷ l → Undone s
-undo-small s W z x l small e =
+pub undo-small : (s : State) → WellFormed s → Edge s → (z x : ℕ) (l : List ℕ) → z < large → s .bins z ≡ x ∷ l → Undone s
+undo-small s W g z x l small e =
     let i = listed-in-high s W z x small (omega (arith, ap (count x) e, count-here x l)) in
     let r = in-parts (s .high) (E s) 1 x (block z free) (i .0) (i .1) in
-    undo-there s W z x l small e (r .0) (r .1) (r .2) (r .3)
+    undo-there s W g z x l small e (r .0) (r .1) (r .2) (r .3)

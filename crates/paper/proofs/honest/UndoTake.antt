@@ -19,7 +19,7 @@ use Rattle.paper.specs.Granting.{E, Result, carryOut, choose, chooseLarg
 use Rattle.paper.specs.Honest.{takes}
 use Rattle.paper.specs.Layout.{blocks-at, large}
 use Rattle.paper.specs.Runs.{sumOf}
-use Rattle.paper.specs.Sound.{High, Low, Sized, WellFormed, freeAt}
+use Rattle.paper.specs.Sound.{HeldFirst, High, Low, Sized, WellFormed, freeAt}
 use Rattle.words.specs.Choice.{if<-no, if<-yes, if=-no, if=-yes}
 
 -- ---- the payload that needs a block of b
@@ -85,6 +85,7 @@ module _ (s : State) (W : WellFormed s) (empty : (y : ℕ) → s .bins y ≡ [])
         freeAt-append us (block z held ∷ []) blocks-at y q,
         ap (λ (k : ℕ). freeAt (s .high) k y q) e,
       ))
+      (λ g. g)
 
   leads-large : take before-large (z - 4) .state ≡ s
   unfolding cutLow
@@ -128,7 +129,8 @@ module _ (s : State) (W : WellFormed s) (empty : (y : ℕ) → s .bins y ≡ [])
 
 -- ---- the first small block
 
-module _ (s : State) (W : WellFormed s) (empty : (y : ℕ) → s .bins y ≡ []) (z : ℕ) (vs : List Block) (is : s .high ≡ block z held ∷ vs) where
+module _ (s : State) (W : WellFormed s) (empty : (y : ℕ) → s .bins y ≡ []) (z : ℕ) (vs : List Block) (is : s .high ≡ block z held ∷ vs)
+    (held-above : HeldFirst vs) where
   abbrev before-small : State
   before-small = record { top = s .top; low = s .low; rest = s .rest + z; high = vs; bins = s .bins }
 
@@ -154,6 +156,7 @@ module _ (s : State) (W : WellFormed s) (empty : (y : ℕ) → s .bins y ≡ [])
         ap (λ (k : List Block). freeAt k (E s) y q) is,
         ap (λ (k : ℕ). freeAt vs k y q) e,
       ))
+      (λ g. held-above)
 
   leads-small : take before-small (z - 4) .state ≡ s
   unfolding cutHigh

@@ -1,10 +1,10 @@
 -- Every state is bare, or some call leads to it: a give-back where a block is free, and otherwise a take.
 use mathlib.Core.List.{List, [], _++_, _∷_}
 use mathlib.Core.Logic.{_⊎_, inl, inr}
-use mathlib.Core.Path.{_≡_, ap, refl}
+use mathlib.Core.Path.{_≡_, ap, refl, subst}
 use Prim.Native.Nat.{_+_, _≤_, ℕ}
 use native.Mathlib.Omega.{arith}
-use Rattle.paper.proofs.honest.AllHeld.{AllHeld, LastOf, held-first, held-last, held-not-listed, held-or-free}
+use Rattle.paper.proofs.honest.AllHeld.{AllHeld, LastOf, held-edge, held-first, held-last, held-not-listed, held-or-free}
 use Rattle.paper.proofs.bins.Bins.{count-nil, nil-of}
 use Rattle.paper.proofs.keeps.Kept.{freeAt-runs}
 use Rattle.paper.proofs.runs.Splitting.{freeAt-mid}
@@ -17,7 +17,7 @@ use Rattle.paper.specs.Bins.{count}
 use Rattle.paper.specs.Blocks.{Block, State, block, blocks, free, held, total}
 use Rattle.paper.specs.Granting.{E}
 use Rattle.paper.specs.Layout.{blocks-at, large}
-use Rattle.paper.specs.Sound.{WellFormed, freeAt}
+use Rattle.paper.specs.Sound.{Edge, WellFormed, freeAt}
 use Rattle.words.specs.Choice.{by<, if=, if=-yes}
 
 free-here : (z p : ℕ) → freeAt (block z free ∷ []) p z p ≡ 1
@@ -30,14 +30,14 @@ pub record Bare (s : State) : Type 0 where
   pub no-high : s .high ≡ []
   pub no-bins : (y : ℕ) → s .bins y ≡ []
 
-module _ (s : State) (W : WellFormed s) where
+module _ (s : State) (W : WellFormed s) (g : Edge s) where
   -- a free block is in its bin, which then has one that entered last
   free-undone : (z q : ℕ) → 1 ≤ freeAt (blocks s) blocks-at z q → Undone s
   free-undone z q h = go (s .bins z) refl
     where
       go : (l : List ℕ) → s .bins z ≡ l → Undone s
       go [] e = absurd (omega (arith, W .listed z q, ap (count q) e, count-nil q))
-      go (x ∷ l) e = by< z large (λ m. undo-small s W z x l m e) (λ m. undo-large s W z x l m e)
+      go (x ∷ l) e = by< z large (λ m. undo-small s W g z x l m e) (λ m. undo-large s W z x l m e)
 
   low-undone : (us : List Block) (z : ℕ) (vs : List Block) → s .low ≡ us ++ block z free ∷ vs → Undone s
   low-undone us z vs is =
@@ -72,7 +72,7 @@ module _ (s : State) (W : WellFormed s) where
     where
       low : (s .low ≡ []) ⊎ LastOf (s .low) → (s .high ≡ []) ⊎ ((z : ℕ) × (vs : List Block) × (s .high ≡ block z held ∷ vs)) → Undone s ⊎ Bare s
       low (inr r) h = inl (undo-take-large s W (empty-bins a b) (r .0) (r .1) (r .2) (r .3) (r .4))
-      low (inl e) (inr r) = inl (undo-take-small s W (empty-bins a b) (r .0) (r .1) (r .2))
+      low (inl e) (inr r) = inl (undo-take-small s W (empty-bins a b) (r .0) (r .1) (r .2) (held-edge (r .1) (subst AllHeld (r .2) b)))
       low (inl e) (inl f) = inr (record { no-low = e; no-high = f; no-bins = empty-bins a b })
 
   pub undo : Undone s ⊎ Bare s

@@ -1,14 +1,15 @@
 -- "One tape answers alike on both" (request 2026-04): no rule looks at the height of the index, so each call answers the same in either layout,
 -- and leaves the same blocks and lists.
-use mathlib.Core.List.{List}
+use mathlib.Core.List.{List, [], _∷_}
 use mathlib.Core.Path.{_≡_, refl, ap, sym, _∙_}
 use Prim.Native.Nat.{ℕ, zero, suc, _+_, _-_}
 use Rattle.paper.specs.declared.Answer.the-variants.{Done}
 use Rattle.paper.specs.declared.Found.{Found}
 use Rattle.paper.specs.declared.Found.the-variants.{Held, Free, Remainder, Nothing}
-use Rattle.paper.specs.Blocks.{State, blocks, freeSum, withTop}
+use Rattle.paper.specs.Blocks.{Block, State, block, blocks, free, freeSum, held, remainder, withTop}
 use Rattle.paper.specs.Counting.{figures, freeLargeOne, freeSmallOne, heldOne}
 use Rattle.paper.specs.GivingBack.{giveBack, giveBackLarge, giveBackSmall, settle}
+use Rattle.paper.specs.GoingHome.{goHome, homeBy, oneHome}
 use Rattle.paper.specs.Granting.{Choice, R, Result, carryOut, choose, chooseLarge, chooseSmall, cutHigh, cutLow, exact-bin, first-of-bin, high-end, larger-bin, low-end, refusal, refused, smallestBin, take, takeFirst, takePart, takeWhole}
 use Rattle.paper.specs.LargestGrant.{greatestGrant, ifGranted, largestGrant}
 use Rattle.paper.specs.Layout.{large}
@@ -19,6 +20,17 @@ use Rattle.words.specs.Choice.{by<, by=, if<, if<-no, if<-yes, if=-no, if=-yes}
 -- the same answer, and the same blocks and lists
 abbrev pub retopped : ℕ → Result → Result
 retopped t r = record { answer = r .answer; state = withTop t (r .state) }
+
+home-by-any : (t : ℕ) (xs : List Block) (s : State) → homeBy xs (withTop t s) ≡ withTop t (homeBy xs s)
+unfolding oneHome
+home-by-any t [] s = refl
+home-by-any t (block z held ∷ xs) s = refl
+home-by-any t (block z remainder ∷ xs) s = refl
+home-by-any t (block z free ∷ xs) s = home-by-any t xs (oneHome s z xs)
+
+pub home-any : (t : ℕ) (s : State) → goHome (withTop t s) ≡ withTop t (goHome s)
+unfolding goHome
+home-any t s = home-by-any t (s .high) s
 
 module _ (t : ℕ) (s : State) where
   choose-any : (size : ℕ) → choose (withTop t s) size ≡ choose s size
@@ -44,15 +56,15 @@ module _ (t : ℕ) (s : State) where
       by= e (R s) (λ h. if=-yes e (R s) _ _ h ∙ ap (withTop t) (sym (if=-yes e (R s) _ _ h)))
       (λ h. if=-no e (R s) _ _ h ∙ ap (withTop t) (sym (if=-no e (R s) _ _ h)))
 
-  back-any : (q z : ℕ) → if< z large (giveBackSmall (withTop t s) q z) (giveBackLarge (withTop t s) q z)
-      ≡ withTop t (if< z large (giveBackSmall s q z) (giveBackLarge s q z))
+  back-any : (q z : ℕ) → if< z large (goHome (giveBackSmall (withTop t s) q z)) (giveBackLarge (withTop t s) q z)
+      ≡ withTop t (if< z large (goHome (giveBackSmall s q z)) (giveBackLarge s q z))
   unfolding giveBackSmall giveBackLarge
   back-any q z =
-      by< z large (λ h. if<-yes z large _ _ h ∙ ap (withTop t) (sym (if<-yes z large _ _ h)))
+      by< z large (λ h. if<-yes z large _ _ h ∙ home-any t (giveBackSmall s q z) ∙ ap (withTop t) (sym (if<-yes z large _ _ h)))
       (λ h. if<-no z large _ _ h ∙ settle-any _ _ _ ∙ ap (withTop t) (sym (if<-no z large _ _ h)))
 
   abbrev given : State → ℕ → ℕ → Result
-  given u q z = record { answer = Done (z - 4); state = if< z large (giveBackSmall u q z) (giveBackLarge u q z) }
+  given u q z = record { answer = Done (z - 4); state = if< z large (goHome (giveBackSmall u q z)) (giveBackLarge u q z) }
 
   pub give-back-any : (offset : ℕ) → giveBack (withTop t s) offset ≡ retopped t (giveBack s offset)
   unfolding giveBack lookUp

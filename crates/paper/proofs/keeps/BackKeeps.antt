@@ -5,16 +5,18 @@ use mathlib.Core.Logic.{_≢_, _⊎_, inl, inr}
 use mathlib.Core.Path.{_∙_, _≡_, ap, subst, sym}
 use Prim.Native.Nat.{_%_, _+_, _-_, _<_, _≤_, ℕ}
 use native.Mathlib.Omega.{arith}
+use Rattle.paper.proofs.home.GoneHome.{goHome-edge, goHome-shaped}
 use Rattle.paper.proofs.keeps.BackLargeKeeps.{giveBackLarge-keeps}
-use Rattle.paper.proofs.keeps.BackSmallKeeps.{giveBackSmall-keeps}
+use Rattle.paper.proofs.keeps.BackSmallKeeps.{giveBackSmall-shaped}
 use Rattle.paper.proofs.runs.HeldPlaces.{HeldHigh, HeldLow, held-at-lies, held-large, held-small, heldAt}
 use Rattle.paper.proofs.runs.LookedUp.{lookUp-held, lookUp-none}
-use Rattle.paper.proofs.keeps.Kept.{Kept, kept-same, sized-high, sized-low}
+use Rattle.paper.proofs.keeps.Kept.{Kept, kept-same, kept-shaped, shaped-then, sized-high, sized-low}
 use Rattle.paper.proofs.runs.Splitting.{sized-mid-parts}
 use Rattle.paper.specs.declared.Answer.the-variants.{Done, Refused}
 use Rattle.paper.specs.Answers.{not-held}
 use Rattle.paper.specs.Blocks.{State, block, held}
 use Rattle.paper.specs.GivingBack.{giveBack, giveBackLarge, giveBackSmall}
+use Rattle.paper.specs.GoingHome.{goHome}
 use Rattle.paper.specs.Granting.{Result, refused}
 use Rattle.paper.specs.Layout.{large}
 use Rattle.paper.specs.Sound.{Sized, WellFormed}
@@ -38,13 +40,13 @@ pub giveBack-some : (s : State) → WellFormed s → (offset : ℕ) → heldAt s
     → giveBack s offset
     ≡ record {
       answer = Done (heldAt s offset - 4);
-      state = if< (heldAt s offset) large (giveBackSmall s (offset - 4) (heldAt s offset)) (giveBackLarge s (offset - 4) (heldAt s offset));
+      state = if< (heldAt s offset) large (goHome (giveBackSmall s (offset - 4) (heldAt s offset))) (giveBackLarge s (offset - 4) (heldAt s offset));
     }
 unfolding giveBack
 giveBack-some s W offset n = lookUp-held offset _ _ s (W .sized) n
 
 pub giveBack-small : (s : State) → WellFormed s → (offset : ℕ) → 1 ≤ heldAt s offset → heldAt s offset < large
-    → giveBack s offset .state ≡ giveBackSmall s (offset - 4) (heldAt s offset)
+    → giveBack s offset .state ≡ goHome (giveBackSmall s (offset - 4) (heldAt s offset))
 giveBack-small s W offset o l = ap (λ (r : Result). r .state) (giveBack-some s W offset (omega arith)) ∙ if<-yes (heldAt s offset) large _ _ l
 
 pub giveBack-large : (s : State) → WellFormed s → (offset : ℕ) → large ≤ heldAt s offset
@@ -53,13 +55,20 @@ giveBack-large s W offset l = ap (λ (r : Result). r .state) (giveBack-some s W 
 
 -- ---- what it keeps
 
+-- put at the front of its bin, and then all go home that can
+small-back-keeps : (s : State) → WellFormed s → (q z : ℕ) → HeldHigh s q z → Kept s (goHome (giveBackSmall s q z))
+small-back-keeps s W q z H =
+    let k = giveBackSmall-shaped s W q z H in
+    kept-shaped s (goHome (giveBackSmall s q z)) (shaped-then s (giveBackSmall s q z) (goHome (giveBackSmall s q z)) k (goHome-shaped _ (k .well-formed)))
+    (λ g. goHome-edge _ (k .well-formed))
+
 pub giveBack-keeps : (s : State) → WellFormed s → (offset : ℕ) → Kept s (giveBack s offset .state)
 giveBack-keeps s W offset =
     by= (heldAt s offset) 0
     (λ e. subst (λ (r : Result). Kept s (r .state)) (sym (giveBack-none s W offset e)) (kept-same s W))
     (λ n. by< (heldAt s offset) large
     (λ l. subst (Kept s) (sym (giveBack-small s W offset (omega arith) l))
-    (giveBackSmall-keeps s W (offset - 4) (heldAt s offset) (held-small s W offset (omega arith) l)))
+    (small-back-keeps s W (offset - 4) (heldAt s offset) (held-small s W offset (omega arith) l)))
     (λ l. subst (Kept s) (sym (giveBack-large s W offset l))
     (giveBackLarge-keeps s W (offset - 4) (heldAt s offset) (held-large s W offset l))))
 

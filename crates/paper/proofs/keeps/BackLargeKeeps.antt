@@ -55,6 +55,7 @@ module _ (s : State) (W : WellFormed s) (us ms vs : List Block) (a e : ℕ) (bin
         ap (λ (l : List Block). freeAt l e y x) v,
         ap (λ (k : ℕ). freeAt (s .high) k y x) f,
       ))
+      (λ g. g)
 
   abbrev freed : List Block
   freed = us ++ block (total ms) free ∷ vs
@@ -79,6 +80,7 @@ module _ (s : State) (W : WellFormed s) (us ms vs : List Block) (a e : ℕ) (bin
         count-rebin-enter bins (total ms) (blocks-at + total us) y x,
         ap (λ (k : ℕ). freeAt (s .high) (blocks-at + k + s .rest) y x) t,
       ))
+      (λ g. g)
 
   pub settle-keeps : Kept s (settle s bins a e)
   settle-keeps =

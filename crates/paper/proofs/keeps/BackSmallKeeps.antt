@@ -1,12 +1,12 @@
 -- A small block given back, at the front of its bin, keeps the state well formed: one held block of the high run is free afterwards,
--- and its start is one more of its bin.
+-- and its start is one more of its bin. At E it may then go home.
 use mathlib.Core.List.{List, [], _++_, _∷_}
 use mathlib.Core.Path.{_∙_, _≡_, ap, subst, sym}
 use Prim.Native.Nat.{_+_, ℕ}
 use native.Mathlib.Omega.{arith}
 use Rattle.paper.proofs.bins.BinLaws.{count-rebin-front}
 use Rattle.paper.proofs.runs.HeldPlaces.{HeldHigh}
-use Rattle.paper.proofs.keeps.Kept.{Kept, kept-high, sized-high}
+use Rattle.paper.proofs.keeps.Kept.{Shaped, shaped-high, sized-high}
 use Rattle.paper.proofs.runs.Shapes.{high-release}
 use Rattle.paper.proofs.runs.Splitting.{freeAt-mid, replace-append, sized-mid, sized-mid-parts, total-mid}
 use Rattle.paper.specs.Bins.{rebin}
@@ -42,11 +42,11 @@ module _ (s : State) (W : WellFormed s) (q z : ℕ) (H : HeldHigh s q z) where
     ap (λ (l : List Block). freeAt l (E s) y x) (H .is),
   )
 
-  pub giveBackSmall-keeps : Kept s (giveBackSmall s q z)
+  pub giveBackSmall-shaped : Shaped s (giveBackSmall s q z)
   unfolding freeAt
-  giveBackSmall-keeps =
-      subst (Kept s) (sym giveBackSmall-is)
-      (kept-high s W released (rebin (s .bins) z (q ∷ s .bins z)) (high-release (H .before) z (H .after) (subst High (H .is) (W .high-ok)))
+  giveBackSmall-shaped =
+      subst (Shaped s) (sym giveBackSmall-is)
+      (shaped-high s W released (rebin (s .bins) z (q ∷ s .bins z)) (high-release (H .before) z (H .after) (subst High (H .is) (W .high-ok)))
       (sized-mid (H .before) (block z free ∷ []) (H .after) (parts .0) (parts .1) (parts .2))
       (omega (
         arith,

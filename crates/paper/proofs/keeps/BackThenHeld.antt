@@ -5,34 +5,25 @@ use mathlib.Core.Logic.{_≢_}
 use mathlib.Core.Path.{_∙_, _≡_, ap, refl, subst, sym}
 use Prim.Native.Nat.{_+_, _-_, _≤_, ℕ}
 use native.Mathlib.Omega.{arith}
+use Rattle.paper.proofs.home.HomeHeld.{goHome-held}
 use Rattle.paper.proofs.keeps.BackKeeps.{giveBack-keeps, giveBack-large, giveBack-none, giveBack-small}
 use Rattle.paper.proofs.keeps.BackLargeKeeps.{giveBackLarge-keeps}
-use Rattle.paper.proofs.keeps.BackSmallKeeps.{giveBackSmall-is, giveBackSmall-keeps}
+use Rattle.paper.proofs.keeps.BackSmallKeeps.{giveBackSmall-is, giveBackSmall-shaped}
 use Rattle.paper.proofs.runs.HeldPlaces.{HeldHigh, HeldLow, held-large, held-place, held-small, heldAt}
-use Rattle.paper.proofs.keeps.Kept.{sized-high, sized-low, sized-rest}
+use Rattle.paper.proofs.keeps.Kept.{held-runs, sized-high, sized-low}
 use Rattle.paper.proofs.runs.Neighbours.{Run, gap, gap-none, gap-some, gap-total, run}
 use Rattle.paper.proofs.keeps.Settled.{fewer, giveBackLarge-enters, giveBackLarge-joins, giveBackLarge-touches, intoBin, intoRemainder, joined, joined-total}
 use Rattle.paper.proofs.runs.Splitting.{sized-mid-parts, starts-append, starts-cons, starts-mid, total-mid}
 use Rattle.paper.specs.Answers.{not-held}
 use Rattle.paper.specs.Bins.{rebin}
-use Rattle.paper.specs.Blocks.{Block, State, block, blocks, free, held, remainder, total}
+use Rattle.paper.specs.Blocks.{Block, State, block, blocks, free, held, total}
 use Rattle.paper.specs.GivingBack.{giveBack, giveBackLarge, giveBackSmall}
+use Rattle.paper.specs.GoingHome.{goHome}
 use Rattle.paper.specs.Granting.{E, R, Result, refused}
 use Rattle.paper.specs.Layout.{blocks-at, large}
 use Rattle.paper.specs.Runs.{heldSize, startsAt}
 use Rattle.paper.specs.Sound.{Sized, WellFormed}
 use Rattle.words.specs.Choice.{by<, by=, if<-no, if<-yes, if=, if=-no, if=-same, if=-yes}
-
--- the held blocks of a state are those of its two runs
-pub held-runs : (s : State) → WellFormed s → (x : ℕ)
-    → startsAt heldSize (blocks s) blocks-at x ≡ startsAt heldSize (s .low) blocks-at x + startsAt heldSize (s .high) (E s) x
-held-runs s W x =
-    starts-append heldSize (s .low) (block (s .rest) remainder ∷ s .high) blocks-at x (sized-low s W)
-    ∙ omega (
-      arith,
-      starts-cons heldSize (block (s .rest) remainder) (s .high) (R s) x (omega (arith, sized-rest s W)),
-      if=-same {A = ℕ} (R s) x 0,
-    )
 
 -- s' is s without the held block of size z at q
 unfoldable pub Released : State → State → ℕ → ℕ → Type 0
@@ -58,13 +49,13 @@ module _ (s : State) (W : WellFormed s) (q z : ℕ) (H : HeldHigh s q z) where
   small-parts : Sized (H .before) × Sized (block z held ∷ []) × Sized (H .after)
   small-parts = sized-mid-parts (H .before) (block z held ∷ []) (H .after) (subst Sized (H .is) (sized-high s W))
 
-  small-released : Released s (giveBackSmall s q z) q z
+  small-front : Released s (giveBackSmall s q z) q z
   unfolding Released
-  small-released x =
+  small-front x =
       let i = giveBackSmall-is s W q z H in
       let s' : State = record
       { top = s .top; low = s .low; rest = s .rest; high = H .before ++ block z free ∷ H .after; bins = rebin (s .bins) z (q ∷ s .bins z) } in
-      let W' : WellFormed s' = subst WellFormed i (giveBackSmall-keeps s W q z H .well-formed) in
+      let W' : WellFormed s' = subst WellFormed i (giveBackSmall-shaped s W q z H .well-formed) in
       omega (
         arith,
         ap (λ (t : State). startsAt heldSize (blocks t) blocks-at x) i,
@@ -76,6 +67,11 @@ module _ (s : State) (W : WellFormed s) (q z : ℕ) (H : HeldHigh s q z) where
         held-one z q x,
         free-none z q x,
       )
+
+  -- and what goes home was not held
+  small-released : Released s (goHome (giveBackSmall s q z)) q z
+  unfolding Released
+  small-released x = omega (arith, small-front x, goHome-held (giveBackSmall s q z) (giveBackSmall-shaped s W q z H .well-formed) x)
 
 -- ---- a large block
 

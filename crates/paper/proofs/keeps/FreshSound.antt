@@ -7,7 +7,7 @@ use Rattle.paper.proofs.bins.Bins.{count-nil}
 use Rattle.paper.specs.Allowed.{Allowed}
 use Rattle.paper.specs.Blocks.{end}
 use Rattle.paper.specs.Fresh.{fresh}
-use Rattle.paper.specs.Sound.{WellFormed, freeAt}
+use Rattle.paper.specs.Sound.{Edge, WellFormed, freeAt}
 
 module _ (t n : ℕ) (a : Allowed n) where
   pub fresh-ends : end (fresh t n) ≡ n
@@ -25,6 +25,10 @@ module _ (t n : ℕ) (a : Allowed n) where
         fits = omega (arith, a .least, a .most);
         listed = λ y q. count-nil q;
       }
+
+pub fresh-edge : (t n : ℕ) → Edge (fresh t n)
+unfolding fresh
+fresh-edge t n = tt
 
 pub fresh-sound : (t n : ℕ) → (t ≡ 1) ⊎ (t ≡ 13) → Allowed n → WellFormed (fresh t n) × (end (fresh t n) ≡ n)
 fresh-sound t n l a = (fresh-well-formed t n a l, fresh-ends t n a)

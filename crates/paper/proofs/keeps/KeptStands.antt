@@ -10,4 +10,4 @@ use Rattle.paper.specs.Governed.{sheet}
 use Rattle.paper.specs.Sheet.{write}
 
 pub kept-stands : (s s' : State) (bs : List ℕ) → Stands s bs → Kept s s' → Stands s' (write (sheet s') bs)
-kept-stands s s' bs S k = write-stands s' (k .well-formed) bs (k .ends ∙ S .ends)
+kept-stands s s' bs S k = write-stands s' (k .well-formed) (k .edge (S .edge)) bs (k .ends ∙ S .ends)

@@ -72,3 +72,4 @@ module _ (s : State) (W : WellFormed s) (b : ℕ) (is-large : large ≤ b) (eigh
         freeAt-append (s .low) (block b held ∷ []) blocks-at y x,
         ap (λ (k : ℕ). freeAt (s .high) k y x) e,
       ))
+      (λ g. g)

@@ -6,9 +6,9 @@ use mathlib.Core.Path.{_∙_, _≡_, ap, refl, sym}
 use Prim.Native.Nat.{_%_, _+_, _-_, _<_, _≤_, ℕ}
 use native.Mathlib.Omega.{arith}
 use Rattle.heads.specs.Heads.{blockSize}
-use Rattle.paper.proofs.keeps.BackThenHeld.{Released, free-none, held-one, held-runs}
+use Rattle.paper.proofs.keeps.BackThenHeld.{Released, free-none, held-one}
 use Rattle.paper.proofs.keeps.Choices.{by-choices}
-use Rattle.paper.proofs.keeps.Kept.{sized-high, sized-low}
+use Rattle.paper.proofs.keeps.Kept.{held-runs, sized-high, sized-low}
 use Rattle.paper.proofs.keeps.TakeGrants.{take-held, take-past-head}
 use Rattle.paper.proofs.keeps.TakeKeeps.{blockSize-eights, blockSize-least, take-refused, take-well-formed}
 use Rattle.paper.proofs.runs.HeldPlaces.{heldAt}

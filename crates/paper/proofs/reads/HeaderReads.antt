@@ -5,7 +5,7 @@ use Prim.Native.Nat.{_%_, _+_, _-_, _≤_, ℕ}
 use native.Mathlib.Nat.{add-comm}
 use native.Mathlib.Omega.{arith}
 use Rattle.paper.proofs.reads.Readings.{low-reads, rest-reads, small-reads}
-use Rattle.paper.proofs.reads.Stands.{Stands}
+use Rattle.paper.proofs.reads.Stands.{StandsBy}
 use Rattle.paper.proofs.runs.Walk.{freeSum-le, total-append}
 use Rattle.paper.proofs.sheet.FreeWordLast.{free-word-reads}
 use Rattle.paper.specs.Bins.{first}
@@ -14,7 +14,7 @@ use Rattle.paper.specs.Granting.{E, R}
 use Rattle.paper.specs.Layout.{end-at, free-word-at, small-bins, start-at}
 use Rattle.words.specs.Words.{wordAt}
 
-module _ (s : State) (bs : List ℕ) (S : Stands s bs) where
+module _ {Rule : State → Type 0} (s : State) (bs : List ℕ) (S : StandsBy Rule s bs) where
   -- no place of the pool is past 65,536
   pub end-near : E s ≤ 65536
   end-near = omega (arith, S .well-formed .fits, total-append (s .low) (block (s .rest) remainder ∷ s .high))

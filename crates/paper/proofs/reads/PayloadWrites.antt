@@ -12,7 +12,7 @@ use Rattle.paper.proofs.sheet.Fields.{at-block}
 use Rattle.paper.proofs.runs.HeldPlaces.{held-at-lies, held-place, heldAt}
 use Rattle.paper.proofs.runs.HeldWalk.{held-in, held-within}
 use Rattle.paper.proofs.reads.Standing.{sound-stands, stands-sound}
-use Rattle.paper.proofs.reads.Stands.{Stands}
+use Rattle.paper.proofs.reads.Stands.{Stands, StandsBy}
 use Rattle.paper.proofs.runs.Places.{in-apart}
 use Rattle.paper.proofs.runs.Walk.{In, in-aligned, in-high}
 use Rattle.words.proofs.Parts.{part-same, replaced-below, replaced-length, replaced-past}
@@ -47,10 +47,11 @@ payload-ungoverned s S i p =
 abbrev pub SameOutside : State → List ℕ → List ℕ → Type 0
 SameOutside s bs bs' = (i : ℕ) → i < length bs → (InPayload s i → ⊥) → getD bs' i 0 ≡ getD bs i 0
 
-pub stands-same-outside : (s : State) (bs bs' : List ℕ) → Stands s bs → length bs' ≡ length bs → SameOutside s bs bs' → Stands s bs'
+pub stands-same-outside : {Rule : State → Type 0} (s : State) (bs bs' : List ℕ) → StandsBy Rule s bs → length bs' ≡ length bs → SameOutside s bs bs' → StandsBy Rule s bs'
 stands-same-outside s bs bs' S l k =
     record {
       well-formed = S .well-formed;
+      edge = S .edge;
       ends = S .ends ∙ sym l;
       holds = holds-through (sheet s) bs bs' l (S .holds) (λ i b. at i b (sheet s (i / 4 * 4)) refl);
     }

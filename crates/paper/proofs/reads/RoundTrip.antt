@@ -7,16 +7,16 @@ use Prim.Native.Nat.{_%_, _*_, _/_, _<_, ℕ}
 use native.Mathlib.Omega.{arith}
 use lib.ListN.{getD, length}
 use Rattle.paper.proofs.reads.Standing.{sound-same, stands-sound}
-use Rattle.paper.proofs.reads.Stands.{Stands}
+use Rattle.paper.proofs.reads.Stands.{Stands, StandsBy}
 use Rattle.paper.proofs.sheet.Written.{getD-write, holds-write, length-write}
 use Rattle.paper.specs.Blocks.{State, end}
 use Rattle.paper.specs.Governed.{sheet}
 use Rattle.paper.specs.Sheet.{Holds, Sheet, byte, octet, pick, write}
 use Rattle.paper.specs.Sound.{Sound, WellFormed}
 
-pub write-stands : (s : State) → WellFormed s → (bs : List ℕ) → end s ≡ length bs → Stands s (write (sheet s) bs)
-write-stands s W bs e =
-    record { well-formed = W; ends = e ∙ sym (length-write (sheet s) bs); holds = holds-write (sheet s) bs }
+pub write-stands : {Rule : State → Type 0} (s : State) → WellFormed s → Rule s → (bs : List ℕ) → end s ≡ length bs → StandsBy Rule s (write (sheet s) bs)
+write-stands s W g bs e =
+    record { well-formed = W; edge = g; ends = e ∙ sym (length-write (sheet s) bs); holds = holds-write (sheet s) bs }
 
 -- a governed byte is the sheet's
 pub write-governed : (g : Sheet) (bs : List ℕ) (i v : ℕ) → i < length bs → g (i / 4 * 4) ≡ some v → getD (write g bs) i 0 ≡ octet v (i % 4)
@@ -29,7 +29,7 @@ holds-governed g bs i v h b e = ap (λ (t : List ℕ). getD t i 0) (sym h) ∙ w
 
 module _ (p : List ℕ) (S : Sound p) (b : List ℕ) (l : length b ≡ length p) where
   pub written-stands : Stands (S .state) (write (sheet (S .state)) b)
-  written-stands = write-stands (S .state) (S .well-formed) b (S .ends ∙ sym l)
+  written-stands = write-stands (S .state) (S .well-formed) (S .edge) b (S .ends ∙ sym l)
 
   pub written-sound : (T : Sound (write (sheet (S .state)) b)) × (T .state ≡ S .state)
   written-sound = stands-sound (S .state) (write (sheet (S .state)) b) written-stands

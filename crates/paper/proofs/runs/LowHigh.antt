@@ -3,7 +3,7 @@ use mathlib.Core.List.{List, [], _++_, _∷_}
 use Prim.Native.Nat.{_≤_, ℕ}
 use Rattle.paper.specs.Blocks.{Block, block, free, held, remainder}
 use Rattle.paper.specs.Layout.{large}
-use Rattle.paper.specs.Sound.{High, Low}
+use Rattle.paper.specs.Sound.{HeldFirst, High, Low}
 
 -- ---- the low run
 pub low-append : (us vs : List Block) → Low us → Low vs → Low (us ++ vs)
@@ -63,3 +63,11 @@ high-parts (block z remainder ∷ us) vs l = absurd l
 
 pub high-hold : (us : List Block) (z : ℕ) (vs : List Block) → High (us ++ block z free ∷ vs) → High (us ++ block z held ∷ vs)
 high-hold us z vs l = let r = high-parts us (block z free ∷ vs) l in high-append us (block z held ∷ vs) (r .0) (r .1)
+
+-- ---- the edge
+-- a held block anywhere in the high run, and what stands above it, leave the edge as it is
+pub edge-hold : (us : List Block) (z : ℕ) (xs ys : List Block) → HeldFirst (us ++ xs) → HeldFirst (us ++ block z held ∷ ys)
+edge-hold [] z xs ys h = tt
+edge-hold (block y held ∷ us) z xs ys h = tt
+edge-hold (block y free ∷ us) z xs ys h = absurd h
+edge-hold (block y remainder ∷ us) z xs ys h = absurd h

@@ -1,17 +1,26 @@
--- giveback::give_back_small meets its contract, by its text.
+-- giveback::give_back_small meets its contract: at E by going home, elsewhere by the front of the bin.
 use Rattle.giveback.specs.Small.{giveBackSmall}
+use Rattle.homing.specs.Homing.{homed}
+use Rattle.words.specs.Choice.{if=-no, if=-yes}
+use Rattle.words.specs.Sums.{plus}
 use borrow.Author.Needs.{needs}
+use mathlib.Core.Path.{_∙_, ap, sym}
 use Rattle.giveback.proofs.small.give_back_small.Statement.{statement}
 use Rattle.giveback.proofs.small.give_back_small.Tie as tie
 
 returns : tie.Need-returns
 unfolding giveBackSmall
 returns c =
-    let m1 = c .before .before in
-    let m2 = m1 .before .before .before .before in
-    let m3 = m2 .before .before .before .before in
-    let m4 = m3 .before .before .before in
-    rw (m1 .put-field2 .ensures, m2 .put-field .ensures, m3 .put32 .ensures, m3 .before .free-head .ensures, m4 .field .ensures)
+    let m = c .before .before in
+    m .go-home .ensures .0 ∙ ap (homed _) (m .before .plus .ensures)
+    ∙ sym (if=-yes _ _ _ _ (m .before .before .before .if1 .taken ∙ m .before .before .before .before .get32 .ensures))
+
+returns-2 : tie.Need-returns-2
+unfolding giveBackSmall
+returns-2 c =
+    let m = c .before .before in
+    m .at-front .ensures
+    ∙ sym (if=-no _ _ _ _ (λ e. m .before .before .if1 .left (e ∙ sym (m .before .before .before .get32 .ensures))))
 
 pub give-back-small-spec : {M : Type 1} → statement M
 give-back-small-spec =
@@ -20,7 +29,8 @@ give-back-small-spec =
     (λ c κs. search needs)
     (λ c κs. search needs)
     (λ c κs. search needs)
-    (λ c κs. search needs)
+    (λ c. search needs)
+    returns
     (λ c κs. search needs)
     (λ c. search needs)
-    returns)
+    returns-2)

@@ -1,0 +1,5 @@
+pub mod Outcomes
+pub mod Refused
+pub mod GoneBytes
+pub mod BroughtIn
+pub mod Determined

@@ -1,0 +1,15 @@
+pub mod Bins
+pub mod Chain
+pub mod EdgeFrame
+pub mod FewListed
+pub mod Home
+pub mod HomeBytes
+pub mod HomeLists
+pub mod ListFrame
+pub mod ListGood
+pub mod ListRead
+pub mod ListsPruned
+pub mod Pruned
+pub mod Pruning
+pub mod RunRead
+pub mod Running
