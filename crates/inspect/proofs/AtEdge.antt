@@ -7,6 +7,7 @@ use Prim.Native.Nat.{ℕ}
 use native.Mathlib.Omega.{arith}
 use lib.Dec.{eqb}
 use lib.ListN.{length}
+use Rattle.guards.proofs.Guards.{no-both}
 use Rattle.heads.specs.Heads.{headOf}
 use Rattle.heads.specs.declared.head.Head.{Head}
 use Rattle.inspect.specs.Inspection.{edgeHeld}
@@ -21,9 +22,6 @@ use Rattle.paper.specs.Layout.{blocks-at, end-at}
 use Rattle.paper.specs.Sound.{Edge, HeldFirst, High, OldSound, Sized}
 use Rattle.words.specs.Choice.{if=, if=-no, if=-yes}
 use Rattle.words.specs.Words.{wordAt}
-
-pub no-both : false ≡ true → ⊥
-no-both e = let z : _≡_ {A = ℕ} 0 1 = cc in omega arith
 
 -- ---- as the code asks
 

@@ -7,7 +7,8 @@ use native.Mathlib.Omega.{arith}
 use lib.ListN.{List·getD-eq-default, getD, length}
 use Rattle.accept.proofs.Exact.{all-sound, only-sound}
 use Rattle.accept.proofs.Simulation.{sim-inspect}
-use Rattle.inspect.proofs.AtEdge.{edge-every, edge-only, no-both}
+use Rattle.guards.proofs.Guards.{no-both}
+use Rattle.inspect.proofs.AtEdge.{edge-every, edge-only}
 use Rattle.inspect.specs.Contract.{OldInspected}
 use Rattle.inspect.specs.Inspection.{edgeHeld, inspected, oldInspected}
 use Rattle.paper.proofs.reads.Unique.{same-state}

@@ -5,7 +5,7 @@ use Rattle.words.specs.Choice.{if=, if<}
 use Rattle.paper.specs.declared.Answer.{Answer}
 use Rattle.paper.specs.declared.Answer.the-variants.{Done, Refused}
 use Rattle.paper.specs.Layout.{blocks-at, large}
-use Rattle.paper.specs.Blocks.{free, Block, block, State}
+use Rattle.paper.specs.Blocks.{free, block, State}
 use Rattle.paper.specs.Bins.{rebin, enter, leave}
 use Rattle.paper.specs.Runs.{under, replace, startsAt, endsAt, freeSize}
 use Rattle.paper.specs.Granting.{Result, refused, R, E}

@@ -9,7 +9,8 @@ use Rattle.paper.specs.Allowed.{Allowed}
 use Rattle.paper.specs.Answers.{not-allowed, not-sound}
 use Rattle.paper.specs.Calls.{broken, misfit, sound}
 use Rattle.paper.specs.Sound.{OldSound}
-use Rattle.inspect.proofs.AtEdge.{edge-every, edge-only, no-both}
+use Rattle.guards.proofs.Guards.{no-both}
+use Rattle.inspect.proofs.AtEdge.{edge-every, edge-only}
 use Rattle.inspect.proofs.Decide.{less, more}
 use Rattle.inspect.specs.Inspection.{edgeHeld}
 use Rattle.reading.proofs.Readings.{by-old-reading, by-reading}

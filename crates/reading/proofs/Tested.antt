@@ -13,7 +13,7 @@ use Rattle.paper.specs.Sound.{SoundBy}
 use Rattle.paper.proofs.reads.Allowed.{allowed-inv, allowed-yes}
 use Rattle.paper.proofs.reads.Standing.{sound-stands}
 use Rattle.paper.proofs.reads.Stands.{StandsBy}
-use Rattle.inspect.proofs.AtEdge.{no-both}
+use Rattle.guards.proofs.Guards.{no-both}
 use Rattle.inspect.proofs.Decide.{one-state}
 use Rattle.reading.specs.Read.{bytes?, readTested, readAllowed, readBy}
 

@@ -5,9 +5,9 @@ use Prim.Native.Nat.{_+_, _<_, _≤_, ℕ}
 use native.Mathlib.Omega.{arith}
 use Rattle.paper.proofs.bins.Listed.{rebin-other, rebin-same}
 use Rattle.paper.proofs.home.Below.{below-left, large-not-below, none-below, notBelow, small-not-below, smallNotBelow}
-use Rattle.paper.proofs.home.Edged.{edged}
+use Rattle.paper.proofs.home.Edged.{edged, edged-shaped}
 use Rattle.paper.proofs.home.OneHome.{oneHome-shaped, sized-edge, small-edge}
-use Rattle.paper.proofs.keeps.Kept.{Shaped, shaped-then}
+use Rattle.paper.proofs.keeps.Kept.{Shaped}
 use Rattle.paper.proofs.runs.Places.{listed-in-high}
 use Rattle.paper.proofs.runs.Walk.{in-low}
 use Rattle.paper.specs.Bins.{leave, rebin}
@@ -129,18 +129,9 @@ goHome-edged s W = home-at-once (s .high) s W refl
 
 -- ---- what is kept
 
-home-shaped : (xs : List Block) (s : State) → WellFormed s → s .high ≡ xs → Shaped s (homeBy xs s)
-unfolding oneHome
-home-shaped [] s W is = record { well-formed = W; ends = refl; same-top = refl }
-home-shaped (block z held ∷ xs) s W is = record { well-formed = W; ends = refl; same-top = refl }
-home-shaped (block z remainder ∷ xs) s W is = record { well-formed = W; ends = refl; same-top = refl }
-home-shaped (block z free ∷ xs) s W is =
-    let k = oneHome-shaped s W z xs is in
-    shaped-then s (oneHome s z xs) (homeBy xs (oneHome s z xs)) k (home-shaped xs (oneHome s z xs) (k .well-formed) refl)
-
 pub goHome-shaped : (s : State) → WellFormed s → Shaped s (goHome s)
-unfolding goHome
-goHome-shaped s W = home-shaped (s .high) s W refl
+goHome-shaped s W =
+    subst (Shaped s) (sym (goHome-edged s W)) (edged-shaped s W (freeRun (s .high)) (pastFree (s .high)) (free-run-splits (s .high)))
 
 -- no free block is at E then
 pub goHome-edge : (s : State) → WellFormed s → Edge (goHome s)

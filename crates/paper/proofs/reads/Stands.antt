@@ -17,9 +17,6 @@ pub record StandsBy (Rule : State → Type 0) (s : State) (bs : List ℕ) : Type
 abbrev pub Stands : State → List ℕ → Type 0
 Stands s bs = StandsBy Edge s bs
 
--- by the old rule, which every pool of the rule in force meets too
+-- by the old rule
 abbrev pub OldStands : State → List ℕ → Type 0
 OldStands s bs = StandsBy OldEdge s bs
-
-pub stands-old : (s : State) (bs : List ℕ) → Stands s bs → OldStands s bs
-stands-old s bs S = record { well-formed = S .well-formed; edge = tt; ends = S .ends; holds = S .holds }

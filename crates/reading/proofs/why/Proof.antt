@@ -3,7 +3,7 @@ use borrow.Author.Needs.{needs}
 use borrow.Author.Tests.{not-true, not-false}
 use mathlib.Core.Path.{sym, _∙_}
 use native.Mathlib.Omega.{arith}
-use Rattle.inspect.proofs.AtEdge.{no-both}
+use Rattle.guards.proofs.Guards.{no-both}
 use Rattle.paper.proofs.reads.Allowed.{allowed-inv, allowed-yes}
 use Rattle.reading.proofs.Reasons.{fails-tests, free-at-edge, not-as-long, passes}
 use Rattle.reading.proofs.why.Statement.{statement}
