@@ -30,12 +30,11 @@
 #define PAPER_NO_ROOM 4u
 #define PAPER_PREVIOUS 4u
 #define PAPER_SMALL_NEXT 4u
-#define PAPER_IS_FREE 5u
+#define PAPER_NOT_HELD 5u
 #define PAPER_LIST_LENGTH 6u
 #define PAPER_FALSE_WORD 8u
 #define PAPER_NEXT 8u
 #define PAPER_NO_LAYOUT 8u
-#define PAPER_NO_START 9u
 #define PAPER_LEVEL 12u
 #define PAPER_LEVELS 13u
 #define PAPER_START 16u
@@ -2167,34 +2166,18 @@ static inline uint8_t reading_old_refusal(const unsigned char *pool, size_t pool
 
 // ---- serving: the calls on a pool that is known to be sound
 
-// Why an offset in a block that is not held is refused: the block starts 4 below it, or elsewhere.
-static inline uint8_t serving_unheld(uint32_t start, uint32_t offset)
-{
-    if ((uint64_t)offset == (uint64_t)start + 4u) {
-        return PAPER_IS_FREE;
-    }
-    return PAPER_NO_START;
-}
-
-// The size of the held block that starts 4 below `offset`, by the block that the offset is in; or the refusal.
+// The size of the held block whose payload starts at `offset`, by the block that the offset is in; or the refusal.
 static inline paper_Answer serving_held_there(paper_Found found, uint32_t offset)
 {
-    if (found.tag == PAPER_FOUND_HELD) {
-        uint32_t start = found.as.Held.f0;
-        uint32_t size = found.as.Held.f1;
-        if ((uint64_t)offset != (uint64_t)start + 4u) {
-            return paper_Answer_Refused(PAPER_NO_START);
-        }
-        return paper_Answer_Done(size);
-    } else if (found.tag == PAPER_FOUND_FREE) {
-        uint32_t start = found.as.Free.f0;
-        return paper_Answer_Refused(serving_unheld(start, offset));
-    } else if (found.tag == PAPER_FOUND_REMAINDER) {
-        uint32_t start = found.as.Remainder.f0;
-        return paper_Answer_Refused(serving_unheld(start, offset));
-    } else {
-        return paper_Answer_Refused(PAPER_NO_START);
+    if (found.tag != PAPER_FOUND_HELD) {
+        return paper_Answer_Refused(PAPER_NOT_HELD);
     }
+    uint32_t start = found.as.Held.f0;
+    uint32_t size = found.as.Held.f1;
+    if ((uint64_t)offset != (uint64_t)start + 4u) {
+        return paper_Answer_Refused(PAPER_NOT_HELD);
+    }
+    return paper_Answer_Done(size);
 }
 
 // The bytes of the payload at `offset`.
@@ -2463,8 +2446,6 @@ uint64_t pool_figures(const unsigned char *pool, size_t pool_len, uint32_t *figu
 
 // ---- What only the piston bank needs
 
-#define PAPER_NOT_NAMED 12u
-
 // What is asked of the pool for a call, at one reading: the first of 1, 2, 10 and 12 that refuses, 0 where none does; and the bytes of the
 // payload that the piston names, 0 where it is empty.
 typedef struct {
@@ -2632,7 +2613,7 @@ static inline paper_Answer pool_ask_all(const unsigned char *pool, size_t pool_l
         return paper_Answer_Refused(why);
     }
     if (!asking_all_held(pool, pool_len, offsets, offsets_len)) {
-        return paper_Answer_Refused(PAPER_NOT_NAMED);
+        return paper_Answer_Refused(PAPER_NOT_HELD);
     }
     uint32_t offset = pool_number_at(offsets, offsets_len, place);
     if (offset == 0u) {
@@ -2655,8 +2636,8 @@ static inline uint8_t bank_past(uint32_t piston, uint8_t next)
 // 12 in its place: a piston above 31 is told first.
 static inline uint8_t bank_ordered(uint32_t piston, uint8_t why)
 {
-    if (why == PAPER_NOT_NAMED) {
-        return bank_past(piston, PAPER_NOT_NAMED);
+    if (why == PAPER_NOT_HELD) {
+        return bank_past(piston, BANK_NOT_NAMED);
     }
     return why;
 }
@@ -2763,7 +2744,7 @@ static inline bank_Place bank_find(const unsigned char *pool, size_t pool_len, c
     uint64_t end = from + (uint64_t)asked.long_;
     uint32_t size = bank_record_in(pool + from, (size_t)(end - from));
     if (size == 0u) {
-        return bank_nothing(pool, pool_len, PAPER_NOT_NAMED);
+        return bank_nothing(pool, pool_len, BANK_NOT_NAMED);
     }
     return bank_Place_of(0u, from, from + (uint64_t)size);
 }

@@ -43,8 +43,7 @@
          for (i = 0; i < BANK_PISTONS; i++)
              if (bank[i] && pool_refusal(pool_ask(pool, n, bank[i]))) bank[i] = 0;
 
-     Of an offset that is not held pool_ask says why: POOL_IS_FREE, a free block starts there; POOL_NO_START, none does. To the bank both are
-     12. Of pistons that name one offset, make all but one 0: which one is right only the organist knows.
+     Of pistons that name one offset, make all but one 0: which one is right only the organist knows.
    - The record of the recalled piston does not read: its kind is another than 1, 2 and 3, or says more bytes than the payload has. That
      refuses the recall of this piston alone. Set it anew, or clear it.
    A bank without a 12 need not be right: an offset that somebody else holds by now, or tab bits that fell over, no call can see.

@@ -11,9 +11,7 @@
        memset(record, 'x', 100);
        r = pool_give_back(pool, sizeof pool, pool_value(r));
        r = pool_give_back(pool, sizeof pool, (uint32_t)(record - pool));
-       if (pool_refusal(r) == POOL_IS_FREE) puts("it was given back already");
-       r = pool_give_back(pool, sizeof pool, 1000);
-       if (pool_refusal(r) == POOL_NO_START) puts("that is no block's offset");
+       if (pool_refusal(r) == POOL_NOT_HELD) puts("it was given back already");
 
    A pool has one of two layouts, which the laying out names. Every call serves both and gives the same answers. Layout 2 has an index over the
    free large blocks: it finds one faster where many different sizes are free, and its bytes are not for firmware that knows layout 1 alone.
@@ -42,12 +40,7 @@
 
    A block is a head of 4 bytes, then its payload; its size, head included, is a multiple of 8. An offset counts from the
    pool's first byte and means the payload. So a payload starts 4 bytes past a multiple of 8: in a pool that is aligned to 8 it
-   is aligned to 4, and never to 8. A block starts at an offset if it starts 4 bytes below.
-
-   An offset that is no held payload's is refused with one of two numbers, by what stands there now. POOL_IS_FREE: a free block starts there, or
-   the remainder. POOL_NO_START: no block does. A second give-back gets POOL_IS_FREE while its block waits in its list, or is the lowest part of
-   what it joined; and POOL_NO_START once it has joined what lies below it: as a small block does that goes home, and a large one with a free one
-   directly below. To know only whether an offset is held, test for both.
+   is aligned to 4, and never to 8.
 
    What you owe, since C cannot check it:
    - `pool` points to n bytes of one object. pool_lay_out, pool_take, pool_give_back, pool_convert and pool_bring_in write them, the others
@@ -76,7 +69,7 @@
 #define POOL_H
 
 /* What changed with each version: docs/CHANGES.md. */
-#define POOL_VERSION "0.7.0"
+#define POOL_VERSION "0.6.0"
 
 #include <stddef.h>
 #include <stdint.h>
@@ -93,10 +86,9 @@ enum {
     POOL_NOT_SOUND = 2,    /* the bytes are no pool that honest calls made; or version 0.5 made them, and pool_bring_in takes them */
     POOL_SIZE_ZERO = 3,    /* the size is 0 */
     POOL_NO_ROOM = 4,      /* no room by the grant rule */
-    POOL_IS_FREE = 5,      /* the block that starts there is free: given back already, or never taken */
+    POOL_NOT_HELD = 5,     /* the offset is not the start of a held payload */
     POOL_LIST_LENGTH = 6,  /* the list has not 7 figures, or not 53 counters */
     POOL_NO_LAYOUT = 8,    /* the layout's number is neither 1 nor 2 */
-    POOL_NO_START = 9,     /* no block starts there: a stray offset, or a block that has joined another since it was given back */
     POOL_OTHER_LAYOUT = 13 /* the pool has not the layout that was named as its old one */
 };
 
@@ -117,11 +109,11 @@ uint64_t pool_inspect(const unsigned char *pool, size_t n);
 /* Grants a payload of at least `size` bytes; they are not cleared. Value: its offset. Refused: 1, 2, 3, 4. */
 uint64_t pool_take(unsigned char *pool, size_t n, uint32_t size);
 
-/* Takes the payload at `offset` back. Value: how many bytes it had. Refused: 1, 2, 5 or 9.
+/* Takes the payload at `offset` back. Value: how many bytes it had. Refused: 1, 2, 5.
    A small block then waits in the list of its size; but as long as the block at E is free, it leaves its list and joins the remainder. */
 uint64_t pool_give_back(unsigned char *pool, size_t n, uint32_t offset);
 
-/* Asks about the payload at `offset`. Value: how many bytes it has. Refused: 1, 2, 5 or 9. */
+/* Asks about the payload at `offset`. Value: how many bytes it has. Refused: 1, 2, 5. */
 uint64_t pool_ask(const unsigned char *pool, size_t n, uint32_t offset);
 
 /* Moves the pool from the layout `old` to the other one, in the same bytes. Value: n. Refused: 1, 8, 2, 13.

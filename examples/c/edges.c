@@ -155,17 +155,9 @@ static void worked(void) {
     expect(!memcmp(list, counts, sizeof counts), "the 53 counters of the worked tape");
 }
 
-/* An offset that is not held is refused alike wherever it is asked. */
-static void not_held(size_t n, uint32_t offset, uint32_t refusal) {
-    refused(GIVE_BACK, n, offset, 0, refusal);
-    refused(ASK, n, offset, 0, refusal);
-}
-
-/* The refusals of a call's own, on the worked pool. It has a free block at 272, and the remainder at 552: no other offset is a free block's. */
+/* The refusals of a call's own, on the worked pool. */
 static void refusals(void) {
-    static const uint32_t IS_FREE[] = {276, 556};
-    static const uint32_t NO_START[] = {0,   4,   168,  171,  173,  176,  272,   277,         280,         340,
-                                        552, 560, 1008, 1020, 1024, 1028, 65812, 0x80000000u, 0x80000114u, 0xFFFFFFFFu};
+    static const uint32_t NOT_HELD[] = {0, 4, 168, 171, 173, 176, 276, 556, 1008, 1020, 1024, 1028, 0x80000000u, 0xFFFFFFFFu};
     static const size_t NOT_7[] = {0, 1, 6, 8, 53}, NOT_53[] = {0, 7, 52, 54};
     size_t i;
     for (i = 0; i < NO_LAYOUTS; i++) refused(LAY_OUT, 1024, NO_LAYOUT[i], 0, POOL_NO_LAYOUT);
@@ -173,8 +165,10 @@ static void refusals(void) {
     refused(TAKE, 1024, 405, 0, POOL_NO_ROOM);
     refused(TAKE, 1024, 65536, 0, POOL_NO_ROOM);
     refused(TAKE, 1024, 0xFFFFFFFFu, 0, POOL_NO_ROOM);
-    for (i = 0; i < sizeof IS_FREE / sizeof *IS_FREE; i++) not_held(1024, IS_FREE[i], POOL_IS_FREE);
-    for (i = 0; i < sizeof NO_START / sizeof *NO_START; i++) not_held(1024, NO_START[i], POOL_NO_START);
+    for (i = 0; i < sizeof NOT_HELD / sizeof *NOT_HELD; i++) {
+        refused(GIVE_BACK, 1024, NOT_HELD[i], 0, POOL_NOT_HELD);
+        refused(ASK, 1024, NOT_HELD[i], 0, POOL_NOT_HELD);
+    }
     for (i = 0; i < sizeof NOT_7 / sizeof *NOT_7; i++) refused(FIGURES, 1024, 0, NOT_7[i], POOL_LIST_LENGTH);
     for (i = 0; i < sizeof NOT_53 / sizeof *NOT_53; i++) refused(CLASS_COUNT, 1024, 0, NOT_53[i], POOL_LIST_LENGTH);
     done(TAKE, 1024, 404, 0, 556);
@@ -295,7 +289,7 @@ static void moves(void) {
     there_and_back(1024, BINS, 3);
     done(CONVERT, 1024, layout, 0, 1024);
     for (i = 0; i < sizeof HELD / sizeof *HELD; i++) done(ASK, 1024, HELD[i][0], 0, HELD[i][1]);
-    for (i = 0; i < sizeof BACK / sizeof *BACK; i++) not_held(1024, BACK[i][0], POOL_IS_FREE);
+    for (i = 0; i < sizeof BACK / sizeof *BACK; i++) refused(ASK, 1024, BACK[i][0], 0, POOL_NOT_HELD);
     done(FIGURES, 1024, 0, 7, 6);
     expect(!memcmp(list, FIGURES_THEN, sizeof FIGURES_THEN), "the seven figures of a pool that was moved");
     done(TAKE, 1024, 92, 0, 692); /* the second of its bin, as in the old layout */
@@ -366,10 +360,6 @@ static void brought_in(void) {
     done(INSPECT, 1024, 0, 0, 1024);
     done(FIGURES, 1024, 0, 7, 2);
     expect(!memcmp(list, FIGURES_THEN, sizeof FIGURES_THEN), "the seven figures of a pool that was brought in");
-    not_held(1024, 1012, POOL_IS_FREE); /* behind a held block; the others went home */
-    not_held(1024, 988, POOL_NO_START);
-    not_held(1024, 964, POOL_NO_START);
-    not_held(1024, 948, POOL_NO_START);
     done(TAKE, 1024, 12, 0, 1012);
     done(TAKE, 1024, 644, 0, 348);
 }
@@ -380,9 +370,6 @@ static void goes_home(void) {
     done(GIVE_BACK, 1024, 988, 0, 12);
     done(GIVE_BACK, 1024, 1012, 0, 12);
     done(GIVE_BACK, 1024, 964, 0, 20);
-    not_held(1024, 988, POOL_IS_FREE);
-    not_held(1024, 1012, POOL_IS_FREE);
-    not_held(1024, 964, POOL_IS_FREE);
     memcpy(image, pool, 1024);
     put(image, FREE_WORD, (uint32_t)word(FREE_WORD) + 16);
     put(image, REST_END, 1000);
@@ -391,10 +378,7 @@ static void goes_home(void) {
     put(image, 1012, 0); /* 984 stood there */
     done(GIVE_BACK, 1024, 948, 0, 12);
     expect(!memcmp(pool, image, 1024), "at E three blocks go home, up to the held one");
-    not_held(1024, 1012, POOL_IS_FREE); /* behind the held one it waits still */
-    not_held(1024, 988, POOL_NO_START);
-    not_held(1024, 964, POOL_NO_START);
-    not_held(1024, 948, POOL_NO_START);
+    refused(GIVE_BACK, 1024, 948, 0, POOL_NOT_HELD);
     put(image, FREE_WORD, (uint32_t)word(FREE_WORD) + 8);
     put(image, REST_END, 1024);
     put(image, 344, 4 * (1024 - 344) + 2);
@@ -402,59 +386,9 @@ static void goes_home(void) {
     done(GIVE_BACK, 1024, 1004, 0, 4);
     expect(!memcmp(pool, image, 1024), "the last one takes the block behind it home, and E is n");
     expect(word(BIN_8) == 0, "and never stood in its bin");
-    not_held(1024, 1012, POOL_NO_START);
-    not_held(1024, 1004, POOL_NO_START);
     done(INSPECT, 1024, 0, 0, 1024);
     done(BRING_IN, 1024, 0, 0, 0);
     expect(!memcmp(pool, image, 1024), "a sound pool is brought in, and no byte changes");
-}
-
-/* Five large blocks side by side, as they stand now: h for held, or the refusal's number. */
-static void stand(const char *as) {
-    uint32_t offset = 172;
-    for (; *as; as++, offset += 104) {
-        if (*as == 'h') done(ASK, 1024, offset, 0, 100);
-        else not_held(1024, offset, (uint32_t)(*as - '0'));
-    }
-}
-
-/* A large block that joins the one above it, or the remainder, starts what they are then. One that joins what lies below it starts nothing any
-   more, until a block is split there. */
-static void joined(void) {
-    static const uint32_t BLOCKS[][2] = {{100, 172}, {100, 276}, {100, 380}, {100, 484}, {100, 588}};
-    static const struct { uint32_t back; const char *then; } STEPS[] = {{276, "h5hhh"}, {172, "59hhh"}, {380, "599hh"}, {588, "599h5"}};
-    size_t i;
-    done(LAY_OUT, 1024, layout, 0, 1024);
-    take_all(1024, BLOCKS, sizeof BLOCKS / sizeof *BLOCKS);
-    for (i = 0; i < sizeof STEPS / sizeof *STEPS; i++) {
-        done(GIVE_BACK, 1024, STEPS[i].back, 0, 100);
-        stand(STEPS[i].then);
-    }
-    done(TAKE, 1024, 100, 0, 172);
-    stand("h59h5");
-    done(GIVE_BACK, 1024, 484, 0, 100); /* between a free block and the remainder */
-    stand("h5999");
-}
-
-/* Every offset, and some past the end, by the heads alone: the blocks, and the remainder among them, stand end to end from 168. */
-static void every_offset(void) {
-    static const uint32_t BLOCKS[][2] = {{76, 172}, {68, 252}, {92, 324}, {4, 508}, {12, 492}, {4, 484}};
-    static const uint32_t BACK[][2] = {{508, 4}, {172, 76}, {492, 12}};
-    uint32_t offset, at = 168;
-    size_t i;
-    done(LAY_OUT, 512, layout, 0, 512);
-    take_all(512, BLOCKS, sizeof BLOCKS / sizeof *BLOCKS);
-    for (i = 0; i < sizeof BACK / sizeof *BACK; i++) done(GIVE_BACK, 512, BACK[i][0], 0, BACK[i][1]);
-    for (offset = 0; offset < 512 + 16; offset++) {
-        if (at < 512 && offset == at + 4) {
-            uint32_t size = (uint32_t)word(at) / 4;
-            if (word(at) % 2) done(ASK, 512, offset, 0, size - 4);
-            else not_held(512, offset, POOL_IS_FREE);
-            at += size;
-        } else {
-            not_held(512, offset, POOL_NO_START);
-        }
-    }
 }
 
 int main(void) {
@@ -474,8 +408,6 @@ int main(void) {
         all_levels();
         brought_in();
         goes_home();
-        joined();
-        every_offset();
     }
     printf("%u passed, %u failed\n", passed, failed);
     return failed != 0;

@@ -1,5 +1,5 @@
-/* The pool alone, without the bank: two texts are kept in it. Lay out, take, write, give back, give back once too often and somewhere else; and
-   move to the other layout and bring in, as an update of the firmware does. */
+/* The pool alone, without the bank: two texts are kept in it. Lay out, take, write, give back, give back once too often; and move to the other
+   layout and bring in, as an update of the firmware does. */
 #include <stdio.h>
 #include <string.h>
 
@@ -14,10 +14,9 @@ static const char *in_words(uint32_t refusal) {
     case POOL_NOT_SOUND: return "the pool is not sound";
     case POOL_SIZE_ZERO: return "the size is 0";
     case POOL_NO_ROOM: return "there is no room";
-    case POOL_IS_FREE: return "the block that starts there is free: given back already, or never taken";
+    case POOL_NOT_HELD: return "no held payload starts there";
     case POOL_LIST_LENGTH: return "the list has the wrong length";
     case POOL_NO_LAYOUT: return "no layout has this number";
-    case POOL_NO_START: return "no block starts there: a stray offset, or a block that has joined another since it was given back";
     case POOL_OTHER_LAYOUT: return "the pool has the other layout";
     default: return "no answer of this pool";
     }
@@ -52,7 +51,6 @@ int main(void) {
 
     say("give the great back", pool_give_back(pool, sizeof pool, great));
     say("give the great back again", pool_give_back(pool, sizeof pool, great));
-    say("give back the middle of the swell", pool_give_back(pool, sizeof pool, swell + 4));
     printf("the swell has: %s\n", (char *)pool + swell);
     say("take 2,000 bytes", pool_take(pool, sizeof pool, 2000));
 

@@ -1,6 +1,6 @@
 """Holds what the drawing finds against probe: on damaged images it names a fault exactly where probe refuses the pool, and on random
-banks exactly where probe refuses a recall. Of each offset that a piston names it says as probe does whether it is held, free or no block's.
-And looks that no link runs through a row of blocks, where the words are, and that with pistons no words stand on others.
+banks exactly where probe refuses a recall. And looks that no link runs through a row of blocks, where the words are, and that with
+pistons no words stand on others.
 
 The images are those of the example tapes, in their layout and in the other one, each damaged many times at a place that a fixed seed
 chooses; all go through one probe run. To each comes one as version 0.5 would have left it, with free blocks at E: there the drawing says how
@@ -19,7 +19,7 @@ HERE = os.path.dirname(os.path.abspath(__file__))
 sys.path.insert(0, os.path.join(HERE, "..", "..", "tools", "drawing"))
 
 import main  # noqa: E402
-from bank import IS_FREE, NO_START, PISTONS, REFUSED, Bank  # noqa: E402
+from bank import PISTONS, REFUSED, Bank  # noqa: E402
 from pistons import RADIUS, BankPicture  # noqa: E402
 from pool import CHAIN, FREE_WORD, LEVEL, SMALL_BINS, SMALL_NEXT, Pool  # noqa: E402
 from svg import HEIGHT, Picture, width_of  # noqa: E402
@@ -221,20 +221,13 @@ def overlaps(drawn):
     return False
 
 
-def ask_commands(bank):
-    """What the pool says of each piston's number."""
-    return [b"A" + bank[at:at + 4] for at in range(0, len(bank), 4)]
-
-
-def bank_agrees(pool, bank, recalls, asked):
+def bank_agrees(pool, bank, recalls):
     numbers = [number for number, _ in recalls]
     drawn = BankPicture(bank, "bank", numbers).draw("image", 0 if not pool.faults else 2, [0] * 7)
     if any(crosses(drawn)) or overlaps(drawn):
         return False
     if pool.faults:
         return all(recall == (2, b"") for recall in recalls)
-    if asked != [bank.asked(offset) for offset in bank.numbers]:
-        return False
     return recalls == [bank.answer(piston) for piston in range(PISTONS)] and bool(bank.faults) == (REFUSED in numbers)
 
 
@@ -242,26 +235,21 @@ def run_banks(images, chance):
     images = [with_kinds(chance.choice(images), chance) for _ in range(BANKS)]
     images += [damaged(image, chance) for image in images[:BANKS // 10]]
     banks = [random_bank(image, chance) for image in images]
-    commands = [[main.image_command(image)] + main.recall_commands(bank) + ask_commands(bank) for image, bank in zip(images, banks)]
+    commands = [[main.image_command(image)] + main.recall_commands(bank) for image, bank in zip(images, banks)]
     lines = main.ask_probe([command for some in commands for command in some])
     step, good, met = len(commands[0]), 0, {"recalled": 0, "some": 0, "refused": 0, "not sound": 0}
-    told = dict.fromkeys((0, IS_FREE, NO_START), 0)  # what is said of the offsets that pistons name
     for i, image in enumerate(images):
         pool = Pool(image)
         bank = Bank(pool, banks[i])
-        answers = lines[i * step + 2:(i + 1) * step]
-        recalls = [main.recalled(line) for line in answers[:PISTONS]]
-        asked = [int(line.split()[1]) for line in answers[PISTONS:]]
+        recalls = [main.recalled(line) for line in lines[i * step + 2:(i + 1) * step]]
         refused = sum(number == REFUSED for number, _ in recalls)
         met["not sound" if pool.faults else "recalled" if refused == 0 else "refused" if refused == PISTONS else "some"] += 1
-        for number in told:
-            told[number] += sum(answer == number for offset, answer in zip(bank.numbers, asked) if offset != 0)
-        if bank_agrees(pool, bank, recalls, asked):
+        if bank_agrees(pool, bank, recalls):
             good += 1
         else:
-            print(f"failed: bank {i} {bank.numbers}: probe says {recalls} and {asked}, the drawing {bank.faults}")
+            print(f"failed: bank {i} {bank.numbers}: probe says {recalls}, the drawing {bank.faults}")
     # as above: there are some of each
-    all_met = min(met.values()) >= 4 and min(told.values()) >= 50
+    all_met = min(met.values()) >= 4
     print(f"{met['recalled']} banks whose pistons are recalled, {met['some']} with a record that does not read, {met['refused']} that are refused "
           f"and {met['not sound']} with an unsound pool: {good + all_met} passed, {len(images) - good + (not all_met)} failed")
     return good == len(images) and all_met

@@ -7,7 +7,7 @@ G 236    # the 16: it waits in its bin
 S        # remainder 40
 G 212    # the 24: it goes home, and then the 16 too
 S        # remainder 80, and no block waits
-G 236    # 9: no block starts there any more
+G 236    # 5: it is no block any more
 G 252    # the last one
 T 76     # as much as after laying out
 S

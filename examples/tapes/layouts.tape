@@ -19,6 +19,6 @@ T 124
 G 172    # it is free already: refused with 5
 M 175    # no pool has this length: refused with 1, and the old one stays
 L 1024   # layout 1 again, over the same bytes
-G 172    # 5: the remainder starts there now
+G 172    # nothing is held there now
 T 68
 S

@@ -8,10 +8,8 @@ T 0      # 3
 T 230    # 4: 240 bytes and 8 more are not there
 T 4294967295   # 4
 T 20
-G 380    # done: it goes home
-G 380    # 9: so no block starts there any more
-G 172    # 5: the remainder starts there, and is free
-G 176    # 9: inside the remainder
-G 100    # 9: in the header
-G 4294967295   # 9
+G 380    # done
+G 380    # 5: given back already
+G 100    # 5: in the header
+G 4294967295   # 5
 S

@@ -78,9 +78,9 @@ impl Record {
 /// # What to do at `NotNamed`
 ///
 /// [`Refusal::NotNamed`] says that pool and numbers do not belong together. Where they name an offset that is not held, or one offset twice,
-/// every call is refused; why an offset is not held, [`Pool::ask`] says. Bring a copy of both back, or make the false numbers 0: those pistons
-/// are empty then, and the others show what they showed. Of pistons that name one offset only the organist knows which one is right. Where the
-/// recalled record alone does not read, set that piston anew, or clear it.
+/// every call is refused. Bring a copy of both back, or make the false numbers 0: those pistons are empty then, and the others show what they
+/// showed. Of pistons that name one offset only the organist knows which one is right. Where the recalled record alone does not read, set that
+/// piston anew, or clear it.
 ///
 /// ```
 /// # use icewimple_pool::{Bank, Layout, Pool, Record, Refusal};
@@ -93,7 +93,7 @@ impl Record {
 /// # assert_eq!(bank.recall(&pool, 4), Err(Refusal::NotNamed));
 /// let numbers = bank.into_numbers();
 /// for number in numbers.iter_mut().filter(|number| **number != 0) {
-///     if let Err(Refusal::IsFree | Refusal::NoStart) = pool.ask(*number) {
+///     if pool.ask(*number) == Err(Refusal::NotHeld) {
 ///         *number = 0;
 ///     }
 /// }

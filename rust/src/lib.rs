@@ -8,9 +8,7 @@
 //! let offset = pool.take(100)?;
 //! pool.lend_mut(offset)?.fill(b'x');
 //! pool.give_back(offset)?;
-//! // a second time: the block is free. Inside it no block starts
-//! assert_eq!(pool.give_back(offset), Err(Refusal::IsFree));
-//! assert_eq!(pool.give_back(offset + 8), Err(Refusal::NoStart));
+//! assert_eq!(pool.give_back(offset), Err(Refusal::NotHeld));
 //! # Ok::<(), Refusal>(())
 //! ```
 //!
@@ -49,10 +47,6 @@ pub const CLASSES: usize = 53;
 
 /// No block has fewer bytes.
 const LEAST_BLOCK: usize = 8;
-
-/// What a call with an offset may be refused with.
-const LOOKED_UP: [Refusal; 4] =
-    [Refusal::NotAllowed, Refusal::NotSound, Refusal::IsFree, Refusal::NoStart];
 
 /// The seven figures of a pool. Held bytes + free word + 172 is the pool's length.
 #[derive(Clone, Copy, Debug, PartialEq, Eq)]
@@ -171,19 +165,19 @@ impl<'a> Pool<'a> {
     }
 
     /// Takes the payload at `offset` back; answers how many bytes it had. A free small block where the remainder ends joins it.
-    /// Refused: [`IsFree`](Refusal::IsFree), [`NoStart`](Refusal::NoStart).
+    /// Refused: [`NotHeld`](Refusal::NotHeld).
     pub fn give_back(&mut self, offset: u32) -> Result<u32, Refusal> {
         let result = raw::give_back(self.bytes, offset);
-        let size = answer(result, &LOOKED_UP)?;
+        let size = answer(result, &[Refusal::NotAllowed, Refusal::NotSound, Refusal::NotHeld])?;
         within(self.bytes.len(), offset, size, result)?;
         Ok(size)
     }
 
     /// How many bytes the payload at `offset` has.
-    /// Refused: [`IsFree`](Refusal::IsFree), [`NoStart`](Refusal::NoStart).
+    /// Refused: [`NotHeld`](Refusal::NotHeld).
     pub fn ask(&self, offset: u32) -> Result<u32, Refusal> {
         let result = raw::ask(self.bytes, offset);
-        let size = answer(result, &LOOKED_UP)?;
+        let size = answer(result, &[Refusal::NotAllowed, Refusal::NotSound, Refusal::NotHeld])?;
         within(self.bytes.len(), offset, size, result)?;
         Ok(size)
     }
@@ -214,7 +208,7 @@ impl<'a> Pool<'a> {
     }
 
     /// The payload at `offset`, for reading.
-    /// Refused: [`IsFree`](Refusal::IsFree), [`NoStart`](Refusal::NoStart).
+    /// Refused: [`NotHeld`](Refusal::NotHeld).
     pub fn lend(&self, offset: u32) -> Result<&[u8], Refusal> {
         let (start, size) = (offset as usize, self.ask(offset)? as usize);
         // `ask` has seen that the payload is within the pool
@@ -222,7 +216,7 @@ impl<'a> Pool<'a> {
     }
 
     /// The payload at `offset`, for writing. Whatever is written there, the pool stays sound.
-    /// Refused: [`IsFree`](Refusal::IsFree), [`NoStart`](Refusal::NoStart).
+    /// Refused: [`NotHeld`](Refusal::NotHeld).
     pub fn lend_mut(&mut self, offset: u32) -> Result<&mut [u8], Refusal> {
         let (start, size) = (offset as usize, self.ask(offset)? as usize);
         // `ask` has seen that the payload is within the pool

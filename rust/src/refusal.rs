@@ -14,14 +14,10 @@ pub enum Refusal {
     SizeZero,
     /// 4: no room by the grant rule.
     NoRoom,
-    /// 5: the block that starts there is free, or is the remainder: given back already, or never taken.
-    IsFree,
+    /// 5: the offset is not the start of a held payload.
+    NotHeld,
     /// 8: the number is no layout's. Only [`Layout::new`](crate::Layout::new) meets it.
     NoLayout,
-    /// 9: no block starts there. The offset is a stray one, or its block has joined what lies below it since it was given back: a small block
-    /// that went home, or a large one with a free one directly below. To know only whether an offset is held, test for
-    /// [`IsFree`](Refusal::IsFree) too.
-    NoStart,
     /// 10: the piston is above 31.
     NoPiston,
     /// 11: the kind is unknown, or the body has another length than its kind says. Only [`Record::new`](crate::Record::new) meets it.
@@ -43,9 +39,8 @@ impl Refusal {
             Refusal::NotSound => Some(2),
             Refusal::SizeZero => Some(3),
             Refusal::NoRoom => Some(4),
-            Refusal::IsFree => Some(5),
+            Refusal::NotHeld => Some(5),
             Refusal::NoLayout => Some(8),
-            Refusal::NoStart => Some(9),
             Refusal::NoPiston => Some(10),
             Refusal::NoRecord => Some(11),
             Refusal::NotNamed => Some(12),
@@ -64,13 +59,8 @@ impl fmt::Display for Refusal {
             Refusal::NotSound => write!(f, "the pool is not sound"),
             Refusal::SizeZero => write!(f, "the size is 0"),
             Refusal::NoRoom => write!(f, "no room by the grant rule"),
-            Refusal::IsFree => {
-                write!(f, "the block that starts there is free: given back already, or never taken")
-            }
+            Refusal::NotHeld => write!(f, "the offset is not the start of a held payload"),
             Refusal::NoLayout => write!(f, "the layout's number is neither 1 nor 2"),
-            Refusal::NoStart => {
-                write!(f, "no block starts there: a stray offset, or a block that has joined another since it was given back")
-            }
             Refusal::NoPiston => write!(f, "the piston is above 31"),
             Refusal::NoRecord => write!(f, "the kind is unknown, or its body has another length"),
             Refusal::NotNamed => {
@@ -114,17 +104,14 @@ mod tests {
     use super::*;
     use std::string::ToString;
 
-    const MAY: [Refusal; 3] = [Refusal::NotAllowed, Refusal::IsFree, Refusal::NoStart];
+    const MAY: [Refusal; 2] = [Refusal::NotAllowed, Refusal::NotHeld];
 
     #[test]
     fn an_answer_is_a_value_or_a_refusal_that_the_call_may_give() {
         assert_eq!(answer(0, &MAY), Ok(0));
         assert_eq!(answer(0xFFFF_FFFF, &MAY), Ok(0xFFFF_FFFF));
         assert_eq!(answer(1 << 32, &MAY), Err(Refusal::NotAllowed));
-        assert_eq!(answer(5 << 32, &MAY), Err(Refusal::IsFree));
-        assert_eq!(answer(9 << 32, &MAY), Err(Refusal::NoStart));
-        // a call that may not give it is not believed
-        assert_eq!(answer(9 << 32, &MAY[..2]), Err(Refusal::Unforeseen(9 << 32)));
+        assert_eq!(answer(5 << 32, &MAY), Err(Refusal::NotHeld));
     }
 
     #[test]
@@ -151,25 +138,17 @@ mod tests {
             Refusal::NotSound,
             Refusal::SizeZero,
             Refusal::NoRoom,
-            Refusal::IsFree,
+            Refusal::NotHeld,
             Refusal::NoLayout,
-            Refusal::NoStart,
             Refusal::NoPiston,
             Refusal::NoRecord,
             Refusal::NotNamed,
             Refusal::OtherLayout,
         ]
         .map(|r| r.number());
-        assert_eq!(numbers, [1, 2, 3, 4, 5, 8, 9, 10, 11, 12, 13].map(Some));
+        assert_eq!(numbers, [1, 2, 3, 4, 5, 8, 10, 11, 12, 13].map(Some));
         assert_eq!(Refusal::Unforeseen(7 << 32).number(), None);
-        assert_eq!(
-            Refusal::IsFree.to_string(),
-            "the block that starts there is free: given back already, or never taken"
-        );
-        assert_eq!(
-            Refusal::NoStart.to_string(),
-            "no block starts there: a stray offset, or a block that has joined another since it was given back"
-        );
+        assert_eq!(Refusal::NotHeld.to_string(), "the offset is not the start of a held payload");
         assert_eq!(Refusal::NoLayout.to_string(), "the layout's number is neither 1 nor 2");
         assert_eq!(
             Refusal::OtherLayout.to_string(),

@@ -119,19 +119,11 @@ fn numbers_that_are_not_held_or_named_twice() {
     let (mut buffer, mut numbers) = ([0; 1024], [0; PISTONS]);
     let mut pool = Pool::lay_out(&mut buffer, Layout::One).unwrap();
     let mut bank = Bank::empty(&mut numbers);
-    for piston in [8, 9, 10] {
-        bank.set(&mut pool, piston as u32, &record(piston)).unwrap();
-    }
-    let [waits, held, went_home] = [8, 9, 10].map(|piston: usize| bank.numbers()[piston]);
+    bank.set(&mut pool, 9, &record(9)).unwrap();
+    bank.set(&mut pool, 10, &record(10)).unwrap();
+    let (held, given_back) = (bank.numbers()[9], bank.numbers()[10]);
     bank.clear(&mut pool, 10).unwrap();
-    bank.clear(&mut pool, 8).unwrap();
-    // the bank reads both of the pool's refusals as its own one
-    let free = [172, waits].map(|offset| (offset, Err(Refusal::IsFree)));
-    let none = [1, 4, 168, 171, 176, 1020, 1024, 1 << 31, u32::MAX, went_home]
-        .map(|offset| (offset, Err(Refusal::NoStart)));
-    let size = pool.ask(held);
-    for (wrong, asked) in free.into_iter().chain(none).chain([(held, size)]) {
-        assert_eq!(pool.ask(wrong), asked, "{wrong}");
+    for wrong in [1, 4, 168, 171, 176, 1020, 1024, 1 << 31, u32::MAX, given_back, held] {
         for place in [0, 10, 31] {
             numbers[place] = wrong;
             let mut bank = Bank::open(&mut numbers);

@@ -23,7 +23,7 @@ fn worked(buffer: &mut [u8], layout: Layout) -> Pool<'_> {
     assert_eq!(pool.give_back(172), Ok(100));
     assert_eq!(pool.take(32), Ok(972));
     assert_eq!(pool.take(72), Ok(556));
-    assert_eq!(pool.give_back(172), Err(Refusal::IsFree));
+    assert_eq!(pool.give_back(172), Err(Refusal::NotHeld));
     assert_eq!(pool.give_back(276), Ok(68));
     assert_eq!(pool.take(100), Ok(172));
     assert_eq!(pool.give_back(556), Ok(76));
@@ -144,15 +144,11 @@ fn a_refusal_changes_no_byte() {
     for size in [405, 65_536, u32::MAX] {
         assert_eq!(pool.take(size), Err(Refusal::NoRoom), "{size}");
     }
-    // a free large block, and the remainder
-    let free = [276, 556].map(|offset| (offset, Refusal::IsFree));
-    let none = [0, 4, 168, 171, 173, 176, 272, 284, 564, 1008, 1020, 1024, 1028, 1 << 31, u32::MAX]
-        .map(|offset| (offset, Refusal::NoStart));
-    for (offset, refusal) in free.into_iter().chain(none) {
-        assert_eq!(pool.give_back(offset), Err(refusal), "{offset}");
-        assert_eq!(pool.ask(offset), Err(refusal), "{offset}");
-        assert_eq!(pool.lend(offset), Err(refusal), "{offset}");
-        assert_eq!(pool.lend_mut(offset), Err(refusal), "{offset}");
+    for offset in [0, 4, 168, 171, 173, 276, 556, 1008, 1020, 1024, 1028, 1 << 31, u32::MAX] {
+        assert_eq!(pool.give_back(offset), Err(Refusal::NotHeld), "{offset}");
+        assert_eq!(pool.ask(offset), Err(Refusal::NotHeld), "{offset}");
+        assert_eq!(pool.lend(offset), Err(Refusal::NotHeld), "{offset}");
+        assert_eq!(pool.lend_mut(offset), Err(Refusal::NotHeld), "{offset}");
     }
     assert_eq!(pool.bytes(), before);
 }
@@ -203,9 +199,7 @@ fn a_long_run_on(layout: Layout) {
             let (offset, byte) = held.swap_remove(numbers.below(held.len()));
             assert!(pool.lend(offset).unwrap().iter().all(|b| *b == byte));
             pool.give_back(offset).unwrap();
-            // offsets.rs asks which of the two it is
-            let again = pool.give_back(offset);
-            assert!(matches!(again, Err(Refusal::IsFree | Refusal::NoStart)), "{again:?}");
+            assert_eq!(pool.give_back(offset), Err(Refusal::NotHeld));
         }
         let figures = pool.figures().unwrap();
         assert_eq!(figures.held_blocks as usize, held.len());

@@ -13,7 +13,6 @@ BYTES = 4 * PISTONS
 HEAD = 4  # the payload of a block starts behind its head
 BODIES = {1: 8, 2: 16, 3: 32}  # the bytes behind a record's kind
 REFUSED = 12
-IS_FREE, NO_START = 5, 9  # what the pool says of an offset that is not held; the bank reads both as 12
 
 # One offset that is named. block: the held one whose payload starts there, or None; record: its bytes, None where it does not read;
 # wrong: whether any fault is about it.
@@ -53,18 +52,11 @@ class Bank:
             return REFUSED, b""
         return 0, self.named[offset].record if offset != 0 else b""
 
-    def asked(self, offset):
-        """What the pool should say of an offset if it is sound: 0 where it is held, else the refusal's number."""
-        block = self.pool.at.get(offset - HEAD)
-        if block is None:
-            return NO_START
-        return 0 if block.kind == "held" else IS_FREE
-
     # One offset
 
     def _read(self, offset, pistons):
         block = self.pool.at.get(offset - HEAD)
-        if self.asked(offset) != 0:
+        if block is None or block.kind != "held":
             self._fault(offset, pistons, self._where(offset), follows=self._is_unread(offset))
             return Named(offset, pistons, None, None, True)
         if len(pistons) > 1:
@@ -93,22 +85,17 @@ class Bank:
         return any(start <= offset < end for start, end in self.pool.gaps)
 
     def _where(self, offset):
-        """Why an offset is not held: a free block starts there, or none does."""
-        if self._is_unread(offset):
-            return "where no block could be read"
-        if self.asked(offset) == IS_FREE:
-            return f"and the {self._name(self.pool.at[offset - HEAD])} is free"
-        return f"no block's offset: {self._around(offset)}"
-
-    def _around(self, offset):
+        """Where an offset lies that is no held payload's start."""
         if offset >= self.pool.n:
             return "outside the pool"
         if offset < BLOCKS:
             return "in the header" if offset < FALSE_BLOCK else "in the false block"
+        if self._is_unread(offset):
+            return "where no block could be read"
         block = next(block for block in self.pool.blocks if block.start <= offset < block.start + block.size)
-        state = {"held": "held ", "remainder": ""}.get(block.kind, "free ")
-        return f"inside the {state}{self._name(block)}, whose offset is {block.start + HEAD}"
-
-    @staticmethod
-    def _name(block):
-        return f"{'remainder' if block.kind == 'remainder' else 'block'} at {block.start}"
+        if block.kind == "remainder":
+            return "in the remainder"
+        state = "held" if block.kind == "held" else "free"
+        if offset == block.start + HEAD:
+            return f"and the block at {block.start} is {state}"
+        return f"inside the {state} block at {block.start}, whose offset is {block.start + HEAD}"

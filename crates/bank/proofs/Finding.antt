@@ -8,12 +8,11 @@ use native.Mathlib.Omega.{arith}
 use lib.ListN.{get_or, length}
 use Rattle.words.specs.Choice.{by=, if=, if=-no, if=-yes}
 use Rattle.words.specs.Words.{Bytes}
-use Rattle.paper.specs.Answers.{not_named}
 use Rattle.paper.specs.declared.Answer.TheVariants.{Done, Refused}
 use Rattle.pool.proofs.Holding.{held-there}
 use Rattle.pool.proofs.Named.{asked-names}
 use Rattle.pool.specs.Calls.{part}
-use Rattle.bank.specs.Calls.{asked, nothing, recall, record_at, refusal}
+use Rattle.bank.specs.Calls.{asked, not_named, nothing, recall, record_at, refusal}
 use Rattle.bank.specs.declared.recalling.Place.{Place}
 use Rattle.bank.specs.Recalls.{Finds}
 use Rattle.bank.specs.Records.{record_in}

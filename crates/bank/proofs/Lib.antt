@@ -3,7 +3,6 @@ pub mod Writing
 pub mod Refusals
 pub mod AskedOnce
 pub mod Outcomes
-pub mod OffsetsNamed
 pub mod Finding
 pub mod Refused
 pub mod Determined

@@ -9,13 +9,13 @@ use lib.ListN.{get_or, length}
 use Rattle.words.proofs.Parts.{replaced-length}
 use Rattle.words.specs.Choice.{by=, if=, if=-no, if=-yes}
 use Rattle.words.specs.Words.{Bytes}
-use Rattle.paper.specs.Answers.{not_named, number}
+use Rattle.paper.specs.Answers.{number}
 use Rattle.paper.specs.declared.Answer.TheVariants.{Done}
 use Rattle.pool.proofs.Accepting.{Accepted, give-back-accepted, give-back-long, take-accepted, take_long, write-accepted}
 use Rattle.pool.proofs.Holding.{Held, give-back-keeps-held, payload-inside, take-keeps-held, write-keeps-held}
 use Rattle.pool.proofs.Named.{Names, asked-accepted, asked-held, asked-names}
 use Rattle.pool.specs.Calls.{ask_all, part}
-use Rattle.bank.specs.Calls.{nothing, recall, record_at, refusal, shown}
+use Rattle.bank.specs.Calls.{not_named, nothing, recall, record_at, refusal, shown}
 use Rattle.bank.specs.declared.recalling.Place.{Place}
 use Rattle.bank.specs.Records.{record_in}
 use Rattle.bank.specs.Run.{Act, Behaved, acted, gives, takes, writes}

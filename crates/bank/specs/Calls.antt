@@ -3,7 +3,7 @@
 use Rattle.std.specs.Prelude.{List, ◌∷◌, ℕ, ◌+◌, ◌-◌, drop, get_or, length, set as put, take as firsts}
 use Rattle.words.specs.Choice.{if<, if=, when}
 use Rattle.words.specs.Parts.{replaced_part}
-use Rattle.paper.specs.Answers.{not_named, number}
+use Rattle.paper.specs.Answers.{number}
 use Rattle.paper.specs.declared.Answer.{Answer}
 use Rattle.paper.specs.declared.Answer.TheVariants.{Done, Refused}
 use Rattle.pool.specs.Calls.{inspect, take, give_back, ask_all, part}
@@ -19,6 +19,10 @@ no_piston = 10
 -- "11 for an unknown kind or wrong body length"
 abbrev pub no_record : ℕ
 no_record = 11
+
+-- "12 for a bank that names an offset not held, or one offset twice, or a recalled record that doesn't read"
+abbrev pub not_named : ℕ
+not_named = 12
 
 -- of two tests, by their numbers, the first that refuses; 0 refuses nothing
 unfoldable pub or_else : ℕ → ℕ → ℕ
@@ -77,7 +81,7 @@ clear bs bank piston =
 abbrev pub nothing : List ℕ → ℕ → Place
 nothing bs k = record { number = k; from = length bs; to = length bs }
 
--- the record of so many bytes at an offset; where they are 0 none reads, "12 for .. a recalled record that doesn't read"
+-- the record of so many bytes at an offset; none reads where they are 0
 unfoldable pub record_at : List ℕ → ℕ → ℕ → Place
 record_at bs offset long = if= long 0 (nothing bs not_named) (record { number = 0; from = offset; to = offset + long })
 

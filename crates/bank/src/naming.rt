@@ -12,6 +12,8 @@ pub const NO_PISTON: u8 = 10;
 
 pub const NO_RECORD: u8 = 11;
 
+pub const NOT_NAMED: u8 = 12;
+
 // 10 for a piston above 31, else what is asked after it.
 fn past(piston: u32, next: u8) -> u8
     ensures { result ≡ call.past piston next }
@@ -26,8 +28,8 @@ fn past(piston: u32, next: u8) -> u8
 fn ordered(piston: u32, why: u8) -> u8
     ensures { result ≡ ordering piston why }
 {
-    if why == paper::NOT_NAMED {
-        return past(piston, paper::NOT_NAMED);
+    if why == paper::NOT_HELD {
+        return past(piston, NOT_NAMED);
     }
     why
 }

@@ -43,7 +43,7 @@ pub fn find(pool: &[u8], bank: &[u32; 32], piston: u32) -> Place
     let end = from + asked.long as usize;
     let size = records::record_in(&pool[from..end]);
     if size == 0 {
-        return nothing(pool, paper::NOT_NAMED);
+        return nothing(pool, naming::NOT_NAMED);
     }
     Place {
         number: 0,

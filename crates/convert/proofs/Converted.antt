@@ -28,7 +28,7 @@ use Rattle.paper.specs.GivingBack.{ask as ask_state}
 use Rattle.paper.specs.Governed.{sheet}
 use Rattle.paper.specs.Granting.{Result}
 use Rattle.paper.specs.Honest.{Honest}
-use Rattle.paper.specs.LookingUp.{look_up, start_below}
+use Rattle.paper.specs.LookingUp.{look_up}
 use Rattle.paper.specs.Runs.{sum_of}
 use Rattle.paper.specs.Sheet.{write}
 use Rattle.paper.specs.Sound.{Sound, level_word}
@@ -108,7 +108,7 @@ module _ (bs : List ℕ) (bytes : Bytes bs) (old v : ℕ) (done : (convert bs ol
 
   -- every offset that the coil side remembers still asks the same
   pub asks-the-same : (offset : ℕ) → ask after offset ≡ ask bs offset
-  unfolding ask ask_state start_below look_up
+  unfolding ask ask_state look_up
   asks-the-same offset =
       ap (λ (x : Reading). ask_call x offset) read-after ∙ sym (ap (λ (x : Reading). ask_call x offset) was-served.reading)
 

@@ -14,5 +14,4 @@ pub mod BackLargeKeeps
 pub mod BackSmallKeeps
 pub mod BackKeeps
 pub mod BackThenHeld
-pub mod BackTwice
 pub mod TakeThenHeld

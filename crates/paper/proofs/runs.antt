@@ -11,5 +11,4 @@ pub mod HeldPlaces
 pub mod HeldWalk
 pub mod LookedUp
 pub mod Asking
-pub mod Starts
 pub mod Neighbours

@@ -27,10 +27,8 @@ no_size = 3
 abbrev pub no_room : ℕ
 no_room = 4
 
--- "5 only when it is 4 past the start of a free block, the remainder included, and 9 for every other offset that isn't a held payload's start"
--- (request 2026-07)
-abbrev pub is_free : ℕ
-is_free = 5
+abbrev pub not-held : ℕ
+not-held = 5
 
 abbrev pub list_length : ℕ
 list_length = 6
@@ -40,13 +38,6 @@ unreadable = 7
 
 abbrev pub no_layout : ℕ
 no_layout = 8
-
-abbrev pub no_start : ℕ
-no_start = 9
-
--- "12 for a bank that names an offset not held, or one offset twice" (request 2026-03)
-abbrev pub not_named : ℕ
-not_named = 12
 
 -- "Refused figures are seven zeros"
 abbrev pub no_figures : Figures

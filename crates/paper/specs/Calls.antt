@@ -6,7 +6,7 @@ use Rattle.paper.specs.declared.Answer.{Answer}
 use Rattle.paper.specs.declared.Answer.TheVariants.{Done, Refused}
 use Rattle.paper.specs.declared.Tally.{Tally}
 use Rattle.paper.specs.declared.Tally.TheVariants.{Counted, Refused as Uncounted}
-use Rattle.paper.specs.Answers.{Out, out, not_allowed, not_sound, list_length, no_layout, not_named}
+use Rattle.paper.specs.Answers.{Out, out, not_allowed, not_sound, not-held, list_length, no_layout}
 use Rattle.paper.specs.Allowed.{Allowed, allowed}
 use Rattle.paper.specs.Blocks.{State, blocks}
 use Rattle.paper.specs.Runs.{sum_of}
@@ -17,7 +17,7 @@ use Rattle.paper.specs.Fresh.{fresh, layout_top}
 use Rattle.paper.specs.Granting.{Result, take}
 use Rattle.paper.specs.GivingBack.{ask, give_back}
 use Rattle.paper.specs.AskingAll.{all_held, ask_one}
-use Rattle.paper.specs.LookingUp.{start_below, by_start}
+use Rattle.paper.specs.LookingUp.{look_up, by_offset}
 use Rattle.paper.specs.Counting.{held_one, figures, class_counters}
 
 -- ---- what a call finds when it reads the pool
@@ -72,17 +72,16 @@ give_back_call r bs offset = by_reading r (unchanged bs) (λ s. leaves (give_bac
 abbrev pub ask_call : Reading → ℕ → Answer
 ask_call r offset = by_reading r Refused (λ s. ask s offset)
 
--- about the offset at a place of a list, 0 past its end. What asking about one of them would be refused with, 5 or 9, is 12 here: "the piston bank
--- reads both as its 12" (request 2026-07); and so is one that stands there twice.
+-- about the offset at a place of a list, 0 past its end: refused as asking about any of them would be, also where one stands there twice
 abbrev pub ask_all_call : Reading → List ℕ → ℕ → Answer
-ask_all_call r offsets place = by_reading r Refused (λ s. when (all_held s offsets) (ask_one s (get_or offsets place 0)) (Refused not_named))
+ask_all_call r offsets place = by_reading r Refused (λ s. when (all_held s offsets) (ask_one s (get_or offsets place 0)) (Refused not-held))
 
 -- "A refused lend returns the empty part at the pool's end.": where the part starts and where it ends
 abbrev pub lend_from : Reading → List ℕ → ℕ → ℕ
-lend_from r bs offset = by_reading r (λ k. length bs) (λ s. by_start (start_below s offset) (λ k. length bs) (λ q z. offset))
+lend_from r bs offset = by_reading r (λ k. length bs) (λ s. by_offset (look_up s offset) offset (λ k. length bs) (λ q z. offset))
 
 abbrev pub lend_to : Reading → List ℕ → ℕ → ℕ
-lend_to r bs offset = by_reading r (λ k. length bs) (λ s. by_start (start_below s offset) (λ k. length bs) (λ q z. offset + (z - 4)))
+lend_to r bs offset = by_reading r (λ k. length bs) (λ s. by_offset (look_up s offset) offset (λ k. length bs) (λ q z. offset + (z - 4)))
 
 abbrev pub figures_call : Reading → Tally
 figures_call r = by_reading r Uncounted (λ s. Counted (figures s))

@@ -9,11 +9,11 @@ use Rattle.paper.specs.Bins.{rebin, enter, leave}
 use Rattle.paper.specs.Runs.{under, replace, starts_at, ends_at, free_size}
 use Rattle.paper.specs.Granting.{Result, refused, R, E}
 use Rattle.paper.specs.GoingHome.{go_home}
-use Rattle.paper.specs.LookingUp.{start_below, by_start}
+use Rattle.paper.specs.LookingUp.{look_up, by_offset}
 
 -- "Ask returns the payload bytes, block size less 4"
 unfoldable pub ask : State → ℕ → Answer
-ask s offset = by_start (start_below s offset) Refused (λ q z. Done (z - 4))
+ask s offset = by_offset (look_up s offset) offset Refused (λ q z. Done (z - 4))
 
 -- "Small: put at the front of its bin." What then stands at E may go home.
 unfoldable pub give_back_small : State → ℕ → ℕ → State
@@ -53,6 +53,6 @@ give_back_large s q z =
 -- "Give-back returns the payload bytes, block size less 4, read from the head."
 unfoldable pub give_back : State → ℕ → Result
 give_back s offset =
-    by_start (start_below s offset)
+    by_offset (look_up s offset) offset
     (λ k. refused k s)
     (λ q z. record { answer = Done (z - 4); state = if< z large (go_home (give_back_small s q z)) (give_back_large s q z) })

@@ -27,7 +27,7 @@ unfoldable pub ends_at : (Block → ℕ) → List Block → ℕ → ℕ → ℕ
 ends_at f [] p q = 0
 ends_at f (b ∷ xs) p q = if= (p + size b) q (f b) (ends_at f xs (p + size b) q)
 
--- the size of a held block, of a free one, and of one that is not held, the remainder included; 0 of any other
+-- the size of a held block, and of a free one; 0 of any other
 abbrev pub held_size : Block → ℕ
 held_size (block z held) = z
 held_size (block z free) = 0
@@ -37,11 +37,6 @@ abbrev pub free_size : Block → ℕ
 free_size (block z held) = 0
 free_size (block z free) = z
 free_size (block z remainder) = 0
-
-abbrev pub unheld_size : Block → ℕ
-unheld_size (block z held) = 0
-unheld_size (block z free) = z
-unheld_size (block z remainder) = z
 
 -- the sum of what f says of each block
 unfoldable pub sum_of : (Block → ℕ) → List Block → ℕ

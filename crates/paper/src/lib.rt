@@ -50,17 +50,10 @@ pub const NO_SIZE: u8 = 3;
 
 pub const NO_ROOM: u8 = 4;
 
-// Of an offset: the block that starts 4 below it is free, or the remainder.
-pub const IS_FREE: u8 = 5;
+pub const NOT_HELD: u8 = 5;
 
 pub const LIST_LENGTH: u8 = 6;
 
 pub const UNREADABLE: u8 = 7;
 
 pub const NO_LAYOUT: u8 = 8;
-
-// Of an offset: no block starts 4 below it.
-pub const NO_START: u8 = 9;
-
-// Of a list of offsets: one of them is not that of a held payload, or stands there twice.
-pub const NOT_NAMED: u8 = 12;

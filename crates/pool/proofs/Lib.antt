@@ -7,4 +7,3 @@ pub mod LargestGrant
 pub mod Accepting
 pub mod Granted
 pub mod Named
-pub mod Offsets

@@ -80,7 +80,7 @@ pub fn ask_all(pool: &[u8], offsets: &[u32], place: u32) -> Answer
         return Answer::Refused(why);
     }
     if !serving::all_held(pool, offsets) {
-        return Answer::Refused(paper::NOT_NAMED);
+        return Answer::Refused(paper::NOT_HELD);
     }
     let offset = lists::number_at(offsets, place);
     if offset == 0 {

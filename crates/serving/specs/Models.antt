@@ -1,14 +1,14 @@
 -- The models of the calls on a pool that is known to be sound, on a list of bytes: laying out, taking, asking about a list of offsets and the
 -- figures as they are below, and those that look an offset up or ask how long a list is.
-use Rattle.std.specs.Prelude.{List, ℕ, ◌+◌, length}
+use Rattle.std.specs.Prelude.{List, ℕ, length}
 use Rattle.words.specs.Choice.{if=}
 use Rattle.words.specs.Sums.{minus}
 use Rattle.paper.specs.declared.Answer.{Answer}
 use Rattle.paper.specs.declared.Answer.TheVariants.{Done, Refused}
 use Rattle.paper.specs.declared.Found.{Found}
-use Rattle.paper.specs.Answers.{Out, out, is_free, list_length, no_start}
+use Rattle.paper.specs.Answers.{Out, out, list_length}
 use Rattle.paper.specs.Calls.{unchanged}
-use Rattle.paper.specs.LookingUp.{by_start, four_past}
+use Rattle.paper.specs.LookingUp.{by_offset}
 use Rattle.giveback.specs.GiveBack as giveback
 use Rattle.walk.specs.LookUp as walk
 use Rattle.walk.specs.Classes.{class_counts}
@@ -17,13 +17,9 @@ unfoldable pub use Rattle.grant.specs.Take.{take}
 unfoldable pub use Rattle.walk.specs.Tallies.{tally as figures}
 unfoldable pub use Rattle.laying.specs.LayingOut.{lay_out}
 
--- why an offset in a block that is not held is refused: the block starts 4 below it, or elsewhere
-unfoldable pub unheld : ℕ → ℕ → ℕ
-unheld start offset = if= offset (start + 4) is_free no_start
-
--- the size of the held block that starts 4 below the offset, by the block that the offset is in; or the refusal
+-- the size of the held block whose payload starts at the offset, by the block that the offset is in; or the refusal
 unfoldable pub held_there : Found → ℕ → Answer
-held_there x offset = by_start (four_past x offset) Refused (λ q z. Done z)
+held_there x offset = by_offset x offset Refused (λ q z. Done z)
 
 module _ {A : Type 0} where
   abbrev pub by_answer : Answer → (refused : ℕ → A) → (done : ℕ → A) → A

@@ -10,31 +10,17 @@ pub use laying::lay_out;
 use paper::{Answer, Found};
 pub use walk::tally as figures;
 
-// Why an offset in a block that is not held is refused: the block starts 4 below it, or elsewhere.
-fn unheld(start: u32, offset: u32) -> u8
-    ensures { result ≡ model.unheld start offset }
-{
-    if offset as usize == start as usize + 4 {
-        return paper::IS_FREE;
-    }
-    paper::NO_START
-}
-
-// The size of the held block that starts 4 below `offset`, by the block that the offset is in; or the refusal.
+// The size of the held block whose payload starts at `offset`, by the block that the offset is in; or the refusal.
 fn held_there(found: Found, offset: u32) -> Answer
     ensures { result ≡ model.held_there found offset }
 {
-    match found {
-        Found::Held(start, size) => {
-            if offset as usize != start as usize + 4 {
-                return Answer::Refused(paper::NO_START);
-            }
-            Answer::Done(size)
-        }
-        Found::Free(start, _) => Answer::Refused(unheld(start, offset)),
-        Found::Remainder(start, _) => Answer::Refused(unheld(start, offset)),
-        Found::Nothing => Answer::Refused(paper::NO_START),
+    let Found::Held(start, size) = found else {
+        return Answer::Refused(paper::NOT_HELD);
+    };
+    if offset as usize != start as usize + 4 {
+        return Answer::Refused(paper::NOT_HELD);
     }
+    Answer::Done(size)
 }
 
 // Takes the block of the payload at `offset` back; answers the payload's bytes.

@@ -22,7 +22,7 @@ use Rattle.paper.specs.Counting.{figures}
 use Rattle.paper.specs.Fresh.{fresh}
 use Rattle.paper.specs.GivingBack.{give_back, give_back_large, give_back_small, left, settle}
 use Rattle.paper.specs.Granting.{choose, choose_large, choose_small, cut_high, cut_low, smallest_bin, take, take_first, take_part, take_whole}
-use Rattle.paper.specs.LookingUp.{block_at, look_up, start_below}
+use Rattle.paper.specs.LookingUp.{block_at, look_up}
 use Rattle.paper.specs.Runs.{ends_at, from, replace, starts_at, sum_of, under}
 use Rattle.records.specs.Records.{read_at, with_body}
 use Rattle.lines.specs.Lines.{begin_of, line_of, rest_of}
@@ -77,7 +77,7 @@ line_of_figures f = line_of 13 83 (0 ∷ seven_of f) ++ []
 
 -- the run over states, up to the figures of its last state
 computed : printed 1 (states_from 65536 (length worked) worked 0 none).lines ≡ first-lines ++ line_of_figures (figures (last (fresh 1 1024) requests))
-unfolding worked first-lines requests if< if= when word_at digits_at block_size numeral numeral_with allowed enter first leave rebin seek used fresh give_back give_back_large give_back_small left settle block_at look_up start_below choose choose_large choose_small cut_high cut_low smallest_bin take take_first take_part take_whole ends_at from replace starts_at sum_of under begin_of line_of rest_of read_at with_body states_from serve_state laid_state printed
+unfolding worked first-lines requests if< if= when word_at digits_at block_size numeral numeral_with allowed enter first leave rebin seek used fresh give_back give_back_large give_back_small left settle block_at look_up choose choose_large choose_small cut_high cut_low smallest_bin take take_first take_part take_whole ends_at from replace starts_at sum_of under begin_of line_of rest_of read_at with_body states_from serve_state laid_state printed
 computed = refl
 
 last_line : line_of_figures (figures (last (fresh 1 1024) requests)) ≡ line "13 S 0 4 368 0 1 416 484 404"

@@ -21,7 +21,7 @@ use Rattle.paper.specs.Fresh.{fresh}
 use Rattle.paper.specs.Sound.{WellFormed}
 use Rattle.paper.specs.Granting.{Result, choose_small, smallest_bin, choose_large, choose, take_first, cut_high, take_whole, take_part, cut_low, take}
 use Rattle.paper.specs.GivingBack.{give_back_small, left, settle, give_back_large, give_back}
-use Rattle.paper.specs.LookingUp.{block_at, look_up, start_below}
+use Rattle.paper.specs.LookingUp.{block_at, look_up}
 use Rattle.paper.specs.Counting.{figures, counters_from, class_counters}
 
 pub data Request : Type 0 where
@@ -44,7 +44,7 @@ requests = T 10 ∷ T 100 ∷ T 61 ∷ T 200 ∷ G 172 ∷ T 32 ∷ T 72 ∷ G 1
 
 pub worked-answers : answers (fresh 1 1024) requests
     ≡ Done 1012 ∷ Done 172 ∷ Done 276 ∷ Done 348 ∷ Done 100 ∷ Done 972 ∷ Done 556 ∷ Refused 5 ∷ Done 68 ∷ Done 172 ∷ Done 76 ∷ []
-unfolding requests if< if= block_size first seek rebin enter leave used under from replace starts_at ends_at sum_of fresh choose_small smallest_bin choose_large choose take_first cut_high take_whole take_part cut_low take block_at look_up start_below give_back_small left settle give_back_large give_back
+unfolding requests if< if= block_size first seek rebin enter leave used under from replace starts_at ends_at sum_of fresh choose_small smallest_bin choose_large choose take_first cut_high take_whole take_part cut_low take block_at look_up give_back_small left settle give_back_large give_back
 worked-answers = refl
 
 -- the state is well formed, so that its largest grant is found by the plain rule
@@ -55,7 +55,7 @@ last-well-formed s W (G offset ∷ rs) = last-well-formed _ (give_back-keeps s W
 
 pub worked-figures : figures (last (fresh 1 1024) requests)
     ≡ record { held_blocks = 4; held_bytes = 368; free_small = 0; free_large = 1; remainder = 416; free_word = 484; largest = 404 }
-unfolding requests if< if= block_size first seek rebin enter leave used under from replace starts_at ends_at sum_of fresh choose_small smallest_bin choose_large choose take_first cut_high take_whole take_part cut_low take block_at look_up start_below give_back_small left settle give_back_large give_back greatest_givable figures
+unfolding requests if< if= block_size first seek rebin enter leave used under from replace starts_at ends_at sum_of fresh choose_small smallest_bin choose_large choose take_first cut_high take_whole take_part cut_low take block_at look_up give_back_small left settle give_back_large give_back greatest_givable figures
 worked-figures =
     ap
     (λ (largest : ℕ). record {
@@ -73,5 +73,5 @@ worked-figures =
 -- the held blocks by class: payloads of 12, 36, 100 and 204 bytes
 pub worked-classes : class_counters (last (fresh 1 1024) requests)
     ≡ 0 ∷ 0 ∷ 1 ∷ 0 ∷ 0 ∷ 0 ∷ 0 ∷ 0 ∷ 0 ∷ 1 ∷ 0 ∷ 0 ∷ 0 ∷ 0 ∷ 0 ∷ 1 ∷ 0 ∷ 0 ∷ 0 ∷ 1 ∷ 0 ∷ 0 ∷ 0 ∷ 0 ∷ 0 ∷ 0 ∷ 0 ∷ 0 ∷ 0 ∷ 0 ∷ 0 ∷ 0 ∷ 0 ∷ 0 ∷ 0 ∷ 0 ∷ 0 ∷ 0 ∷ 0 ∷ 0 ∷ 0 ∷ 0 ∷ 0 ∷ 0 ∷ 0 ∷ 0 ∷ 0 ∷ 0 ∷ 0 ∷ 0 ∷ 0 ∷ 0 ∷ 0 ∷ []
-unfolding requests if< if= block_size first seek rebin enter leave used under from replace starts_at ends_at sum_of fresh choose_small smallest_bin choose_large choose take_first cut_high take_whole take_part cut_low take block_at look_up start_below give_back_small left settle give_back_large give_back size least_from class_of counters_from class_counters
+unfolding requests if< if= block_size first seek rebin enter leave used under from replace starts_at ends_at sum_of fresh choose_small smallest_bin choose_large choose take_first cut_high take_whole take_part cut_low take block_at look_up give_back_small left settle give_back_large give_back size least_from class_of counters_from class_counters
 worked-classes = refl

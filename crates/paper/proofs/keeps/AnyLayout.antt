@@ -13,7 +13,7 @@ use Rattle.paper.specs.GoingHome.{go_home, home_by, one_home}
 use Rattle.paper.specs.Granting.{Choice, R, Result, carry_out, choose, choose_large, choose_small, cut_high, cut_low, exact_bin, first_of_bin, high_end, larger_bin, low-end, refusal, refused, smallest_bin, take, take_first, take_part, take_whole}
 use Rattle.paper.specs.LargestGrant.{greatest_grant, if_granted, largest_grant}
 use Rattle.paper.specs.Layout.{large}
-use Rattle.paper.specs.LookingUp.{by_start, start_below, look_up}
+use Rattle.paper.specs.LookingUp.{by_offset, look_up}
 use Rattle.paper.specs.Runs.{held_size, sum_of}
 use Rattle.words.specs.Choice.{by<, by=, if<, if<-no, if<-yes, if=-no, if=-yes}
 
@@ -67,11 +67,15 @@ module _ (t : ℕ) (s : State) where
   given u q z = record { answer = Done (z - 4); state = if< z large (go_home (give_back_small u q z)) (give_back_large u q z) }
 
   pub give-back-any : (offset : ℕ) → give_back (with_top t s) offset ≡ retopped t (give_back s offset)
-  unfolding give_back start_below look_up
-  give-back-any offset = go (start_below s offset)
+  unfolding give_back look_up
+  give-back-any offset = go (look_up s offset)
     where
-      go : (x : Found) → by_start x (λ k. refused k (with_top t s)) (given (with_top t s)) ≡ retopped t (by_start x (λ k. refused k s) (given s))
-      go (Held q z) = ap (λ (u : State). record { answer = Done (z - 4); state = u }) (back_any q z)
+      go : (x : Found) → by_offset x offset (λ k. refused k (with_top t s)) (given (with_top t s)) ≡ retopped t (by_offset x offset (λ k. refused k s) (given s))
+      go (Held q z) =
+          by= offset (q + 4)
+          (λ e. if=-yes offset (q + 4) _ _ e ∙ ap (λ (u : State). record { answer = Done (z - 4); state = u }) (back_any q z)
+          ∙ ap (retopped t) (sym (if=-yes offset (q + 4) _ _ e)))
+          (λ e. if=-no offset (q + 4) _ _ e ∙ ap (retopped t) (sym (if=-no offset (q + 4) _ _ e)))
       go (Free q z) = refl
       go (Remainder q z) = refl
       go Nothing = refl

@@ -13,7 +13,7 @@ use Rattle.paper.specs.Granting.{E, R}
 use Rattle.paper.specs.Layout.{blocks_at}
 use Rattle.paper.specs.Runs.{held_size, starts_at}
 use Rattle.paper.specs.Sound.{Edge, HeldFirst, High, Low, Sized, WellFormed, free_at}
-use Rattle.words.specs.Choice.{if=, if=-same}
+use Rattle.words.specs.Choice.{if=-same}
 
 -- all but the edge, as between two steps of a call
 pub record Shaped (s s' : State) : Type 0 where
@@ -55,17 +55,15 @@ module _ (s : State) (W : WellFormed s) where
   pub sized-high : Sized s.high
   sized-high = (sized-parts s.low (block s.rest remainder ∷ s.high) W.sized).1.1
 
-  -- what starts at a place: of the low blocks, the remainder, or the high blocks
-  pub starts-runs : (f : Block → ℕ) (x : ℕ) → starts_at f (blocks s) blocks_at x
-      ≡ starts_at f s.low blocks_at x + (if= (R s) x (f (block s.rest remainder)) 0 + starts_at f s.high (E s) x)
-  starts-runs f x =
-      starts-append f s.low (block s.rest remainder ∷ s.high) blocks_at x sized-low
-      ∙ ap (λ (k : ℕ). starts_at f s.low blocks_at x + k)
-      (starts-cons f (block s.rest remainder) s.high (R s) x (omega (arith, sized-rest)))
-
   -- the held blocks of a state are those of its two runs
   pub held-runs : (x : ℕ) → starts_at held_size (blocks s) blocks_at x ≡ starts_at held_size s.low blocks_at x + starts_at held_size s.high (E s) x
-  held-runs x = omega (arith, starts-runs held_size x, if=-same {A = ℕ} (R s) x 0)
+  held-runs x =
+      starts-append held_size s.low (block s.rest remainder ∷ s.high) blocks_at x sized-low
+      ∙ omega (
+        arith,
+        starts-cons held_size (block s.rest remainder) s.high (R s) x (omega (arith, sized-rest)),
+        if=-same {A = ℕ} (R s) x 0,
+      )
 
   -- other runs, a remainder of another size, and other lists
   module _ (lo : List Block) (r : ℕ) (hi : List Block) (bins' : ℕ → List ℕ) where

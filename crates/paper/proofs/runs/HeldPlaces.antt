@@ -9,25 +9,16 @@ use Rattle.paper.proofs.runs.LowHigh.{high_parts}
 use Rattle.paper.proofs.runs.Shapes.{low_held}
 use Rattle.paper.proofs.runs.Splitting.{starts-append, starts-below, starts-split}
 use Rattle.paper.proofs.runs.Walk.{sized-parts, total-append}
-use Rattle.paper.specs.Answers.{is_free, no_start}
 use Rattle.paper.specs.Blocks.{Block, State, block, blocks, free, held, remainder, total}
 use Rattle.paper.specs.Granting.{E, R}
 use Rattle.paper.specs.Layout.{blocks_at, large}
-use Rattle.paper.specs.Runs.{held_size, starts_at, unheld_size}
+use Rattle.paper.specs.Runs.{held_size, starts_at}
 use Rattle.paper.specs.Sound.{High, Low, Sized, WellFormed}
-use Rattle.words.specs.Choice.{by<, by=, if<, if<-no, if<-yes, if=, if=-no, if=-yes}
+use Rattle.words.specs.Choice.{by<, by=, if<, if<-no, if<-yes, if=-no, if=-yes}
 
 -- the size of the held block that starts 4 below the offset, 0 where there is none
 unfoldable pub held_at : State → ℕ → ℕ
 held_at s offset = if< offset 4 0 (starts_at held_size (blocks s) blocks_at (offset - 4))
-
--- the size of the free block or the remainder that starts there, 0 where neither does
-unfoldable pub unheld_at : State → ℕ → ℕ
-unheld_at s offset = if< offset 4 0 (starts_at unheld_size (blocks s) blocks_at (offset - 4))
-
--- why an offset is refused that is not that of a held block
-unfoldable pub why_not : State → ℕ → ℕ
-why_not s offset = if= (unheld_at s offset) 0 no_start is_free
 
 pub held-block : (b : Block) (z : ℕ) → held_size b ≡ z → 1 ≤ z → b ≡ block z held
 held-block (block y held) z e l = ap (λ (k : ℕ). block k held) e

@@ -8,11 +8,11 @@ use Rattle.bank.proofs.naming.ordered.Tie as tie
 
 returns : tie.Need-returns
 unfolding ordering
-returns c = c.past.ensures ∙ sym (if=-yes _ 12 _ _ c.before.if1.true)
+returns c = c.past.ensures ∙ sym (if=-yes _ 5 _ _ c.before.if1.true)
 
 returns-2 : tie.Need-returns-2
 unfolding ordering
-returns-2 c = sym (if=-no _ 12 _ _ c.if1.false)
+returns-2 c = sym (if=-no _ 5 _ _ c.if1.false)
 
 pub ordered-spec : {M : Type 1} → statement M
 ordered-spec = tie.close (tie.spec (λ c κs. search rules) returns returns-2)
