@@ -1,5 +1,7 @@
 // Asking about a list of offsets at one walk: the held blocks are marked along the way, and each offset uses up its mark, so that one
 // which is not held finds none, and neither does one that stands in the list twice.
+#![tactic(auto)]
+
 ghost use Rattle.std.specs.Prelude.{◌≡◌};
 ghost use Rattle.asking.specs.AllHeld as model;
 

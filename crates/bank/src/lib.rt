@@ -1,6 +1,8 @@
 // The piston bank: 32 pistons, each empty or naming one record of a pool. The bank is 32 lent numbers, 0 for an empty piston and else
 // where the record's payload starts. Every call reads pool and bank first, refuses in the order 1, 2, 10, 12, 11, 4, and changes nothing
 // where it refuses. It stands on the pool's public calls alone, and has no precondition.
+#![tactic(auto)]
+
 mod kinds;
 mod naming;
 mod recalling;

@@ -1,6 +1,8 @@
 // The public calls for C: crate pool's own, `convert` and `bring_in`, each of which answers one number of 64 bits, with the refusal's number
 // in its upper half and the value in its lower half. A slice is a pointer and a length in C (include/pool.h). None has a precondition, and
 // each contract is an equation with the call's own definition. `pistons` has the piston bank's, with the bank's definitions.
+#![tactic(auto)]
+
 mod fill;
 mod halves;
 mod pistons;

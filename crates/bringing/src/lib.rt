@@ -1,5 +1,7 @@
 // A pool that was stored under the old rule is brought in (request 2026-06): a call above the pool. Free small blocks at the edge go home, and
 // all else stays. It reads the pool itself first, by the old rule, and has no precondition; a refusal changes no byte.
+#![tactic(auto)]
+
 ghost use Rattle.std.specs.Prelude.{◌≡◌};
 ghost use Rattle.paper.specs.Answers.{out};
 ghost use Rattle.bringing.specs.BringingIn as call;

@@ -1,5 +1,7 @@
 // Where a block for a payload would come from: asked before anything is stored, and storing nothing.
 // Total, and with no inspection of its own: the pool's calls inspect first.
+#![tactic(auto)]
+
 mod remainder;
 
 ghost use Rattle.std.specs.Prelude.{◌≡◌};

@@ -1,4 +1,6 @@
 // The size classes of held blocks: class k has size (4 + k mod 4) × 2^(k div 4 + 1), for k from 0 to 52 (as a table: specs/Sizes.antt).
+#![tactic(auto)]
+
 ghost use Rattle.std.specs.Prelude.{◌≡◌};
 ghost use Rattle.classes.specs.Class.{class_of};
 

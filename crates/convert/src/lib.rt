@@ -1,5 +1,7 @@
 // A pool moves from one layout to the other, in its own buffer (request 2026-05): a call above the pool. The caller names the layout that the
 // pool has; blocks, held payloads and the order of every bin stay. It reads the pool itself first and has no precondition, and a refusal changes no byte.
+#![tactic(auto)]
+
 ghost use Rattle.std.specs.Prelude.{◌≡◌};
 ghost use Rattle.paper.specs.Answers.{out};
 ghost use Rattle.convert.specs.Converting as call;

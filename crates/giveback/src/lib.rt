@@ -2,6 +2,8 @@
 //
 // Stale bytes stay: an absorbed block's head and footer keep what they had, and only words that are governed
 // afterwards are stored.
+#![tactic(auto)]
+
 mod large;
 mod small;
 

@@ -1,6 +1,8 @@
 // How a block is granted. Total, and with no inspection of its own: the pool's calls inspect first.
 //
 // Bytes that stay: only words that are governed afterwards are stored, so a taken payload keeps its old bytes.
+#![tactic(auto)]
+
 mod granted;
 mod large;
 mod small;

@@ -1,1 +1,2 @@
 // No code: a list of tests as data (specs), and what it says that all have passed or one has not (proofs).
+#![tactic(auto)]

@@ -1,4 +1,6 @@
 // The words that stand at fixed places: the header, the false block, and the head of the remainder.
+#![tactic(auto)]
+
 ghost use Rattle.std.specs.Prelude.{◌≡◌, eqb};
 ghost use Rattle.heads.specs.Links.{link_word, followed};
 ghost use Rattle.guards.specs.Tests.{pass};

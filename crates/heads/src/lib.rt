@@ -1,4 +1,6 @@
 // The head word of a block, the block size for a payload, and signed links between blocks.
+#![tactic(auto)]
+
 mod head;
 mod links;
 

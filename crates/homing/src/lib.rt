@@ -3,6 +3,8 @@
 //
 // Linear in the small blocks, however many go home: where they end is found first, and then each list is gone along once. What goes home
 // keeps its bytes, and a link that does not change is not stored.
+#![tactic(auto)]
+
 ghost use Rattle.std.specs.Prelude.{◌≡◌};
 ghost use Rattle.words.specs.Words.{put_at};
 ghost use Rattle.homing.specs.Homing.{free_run, pruned, pruned_from, homed, homes};

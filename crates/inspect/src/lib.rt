@@ -1,5 +1,7 @@
 // Whether a pool is sound: one linear pass over the blocks, one along the lists of the bins, and the block at E. `reading` asks for all of it.
 // Nothing is believed before it was tested, and every function is total: it may be asked about any bytes.
+#![tactic(auto)]
+
 ghost use Rattle.std.specs.Prelude.{◌≡◌};
 ghost use Rattle.paper.specs.Allowed.{allowed as Allowed-of};
 ghost use Rattle.inspect.specs.Inspection.{edge_held, old_inspected};

@@ -1,4 +1,6 @@
 // Laying out: the governed bytes of a fresh pool, over whatever stands in the buffer.
+#![tactic(auto)]
+
 ghost use Rattle.std.specs.Prelude.{◌≡◌};
 ghost use Rattle.paper.specs.Fresh.{layout_top};
 ghost use Rattle.laying.specs.LayingOut.{cleared_to, lay_out};

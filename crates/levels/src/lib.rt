@@ -1,5 +1,7 @@
 // The index over the bins: how high it is in a pool, up to which level a bin stands in it, where a level's word stands, and from which level
 // on a bin is looked for.
+#![tactic(auto)]
+
 ghost use Rattle.std.specs.Prelude.{◌≡◌};
 ghost use Rattle.paper.specs.Governed.{height as height-of};
 ghost use Rattle.levels.specs.Levels.{top_of, start_of, word_of};

@@ -1,5 +1,7 @@
 // The lines of a run: "record number from 1, letter, refusal number, value (for S done: the seven figures)", with a space between.
 // Each function puts its text at a place of `out` and answers the next place.
+#![tactic(auto)]
+
 ghost use Rattle.std.specs.Prelude.{◌≡◌, [], ◌∷◌};
 ghost use Rattle.text.specs.Page.{page, put};
 ghost use Rattle.text.specs.Numeral.{numeral};

@@ -1,4 +1,6 @@
 // The lists of the bins. Each member must be marked, and its mark goes, so none is met twice and no ring is followed for ever.
+#![tactic(auto)]
+
 mod index;
 
 ghost use Rattle.std.specs.Prelude.{◌≡◌, suc};

@@ -1,5 +1,7 @@
 // A set of starts as bits, one for each 8 bytes of a pool, in a list of 64-bit words. Total: a start past the end is in no set, and
 // cannot be put in; nor is a number in it that is no multiple of 8.
+#![tactic(auto)]
+
 ghost use Rattle.std.specs.Prelude.{◌≡◌, eqb, ltb};
 ghost use Rattle.marks.specs.Marks.{bit_at, put_bit_at};
 ghost use Rattle.marks.specs.MarkSets.{bit_marks};

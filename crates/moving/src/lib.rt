@@ -1,6 +1,8 @@
 // A sound pool gets an index of another height, in its own bytes and in one pass along level 1, where every bin stands in either layout: each
 // first block gets its level word, and on each level above the last one that stands there leads to it. At the end nothing comes past the last ones.
 // Down to one level, that clears the false block's words: no bin stands on a level above, so the last one there is the false block.
+#![tactic(auto)]
+
 ghost use Rattle.std.specs.Prelude.{◌≡◌, ◌-◌};
 ghost use Rattle.paper.specs.Layout.{chain_at, false_block, levels};
 ghost use Rattle.bins.specs.Find.{linked_at};

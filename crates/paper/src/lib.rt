@@ -1,4 +1,6 @@
 // What every public call answers, and the layout of a pool.
+#![tactic(auto)]
+
 mod layout;
 
 pub use layout::{

@@ -1,6 +1,8 @@
 // The public calls on a pool of lent bytes. Every call but laying out reads the pool itself first, and serves it if it is sound; a
 // refusal changes no byte. None has a precondition: each ends with one of the paper's answers on every pool of bytes, size or
 // offset. Each contract is an equation with the paper's own definition (crates/paper/specs/Calls.antt).
+#![tactic(auto)]
+
 mod lists;
 mod parts;
 

@@ -1,5 +1,7 @@
 // The bench's view of one pool image: commands from standard input, a line for each on standard output.
 // Every word that matters is answered by the pool's own calls; this program only reads numbers and prints answers.
+#![tactic(auto)]
+
 mod calls;
 mod input;
 mod output;

@@ -1,4 +1,6 @@
 // What a call finds when it reads the pool: every call but laying out asks this first, and serves only a pool that is sound.
+#![tactic(auto)]
+
 ghost use Rattle.std.specs.Prelude.{◌≡◌};
 ghost use Rattle.reading.specs.Read as call;
 

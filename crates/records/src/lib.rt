@@ -1,4 +1,6 @@
 // The records of a request tape: what stands at a place of it, a whole request or none that can be read.
+#![tactic(auto)]
+
 mod reader;
 mod request;
 

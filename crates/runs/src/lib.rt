@@ -1,4 +1,6 @@
 // A run of blocks end to end, read by their heads; each free one is marked, counted and summed.
+#![tactic(auto)]
+
 ghost use Rattle.std.specs.Prelude.{◌≡◌};
 ghost use Rattle.guards.specs.Tests.{pass};
 ghost use Rattle.paper.specs.Layout.{blocks_at};

@@ -1,5 +1,7 @@
 // The calls on a pool that is known to be sound: none of them inspects. Each is total, and on a pool that stands for a state it
 // gives the paper's answer and leaves a pool that stands for the state after (proofs/).
+#![tactic(auto)]
+
 ghost use Rattle.std.specs.Prelude.{◌≡◌};
 ghost use Rattle.paper.specs.Answers.{out};
 ghost use Rattle.serving.specs.Models as model;

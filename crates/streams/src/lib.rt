@@ -1,5 +1,7 @@
 // What a program reads and writes, and what it says where that fails. A program has no exit status: a failure is said on standard
 // error, and nothing else is ever written there.
+#![tactic(auto)]
+
 ghost use Rattle.io.specs.Counts.{IsPrefixLen};
 
 use libc::{STDERR_FILENO, STDIN_FILENO, STDOUT_FILENO};

@@ -1,4 +1,6 @@
 // The request tape: its records are read and served one after the other, and each prints a line.
+#![tactic(auto)]
+
 ghost use Rattle.std.specs.Prelude.{◌≡◌};
 ghost use Rattle.tape.specs.Run.{run_of, leaves, left};
 

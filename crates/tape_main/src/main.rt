@@ -1,5 +1,7 @@
 // Runs the request tape on standard input, and writes its lines to standard output.
 // One byte more than the longest tape, so that a longer one is seen to be too long.
+#![tactic(auto)]
+
 const READ: usize = 32_769;
 
 fn main() {

@@ -1,5 +1,7 @@
 // Text in lent bytes: each function puts bytes at a place and answers the next place. All are total: past the end nothing is put,
 // and the place stays.
+#![tactic(auto)]
+
 ghost use Rattle.std.specs.Prelude.{◌≡◌};
 ghost use Rattle.text.specs.Page.{page, put_one, put as Page·put};
 ghost use Rattle.text.specs.Numeral.{numeral as Numeral·numeral};

@@ -1,4 +1,6 @@
 // Along the blocks, from 168 to R and from E to n. Total: a block of size 0, which no sound pool has, ends the walk.
+#![tactic(auto)]
+
 mod class_counts;
 mod looking_up;
 mod tallies;

@@ -1,5 +1,7 @@
 // Little-endian words in lent bytes, total: a word that is not wholly in them reads as 0 and is not written.
 // So every function above is total too, whatever bytes it meets.
+#![tactic(auto)]
+
 ghost use Rattle.std.specs.Prelude.{◌≡◌, ◌+◌, ◌<◌};
 ghost use Rattle.words.specs.Sums.{plus as plus-of, minus as minus-of};
 ghost use Rattle.words.specs.Words.{word_at, put_at};
