@@ -50,8 +50,8 @@ worked-answers = refl
 -- the state is well formed, so that its largest grant is found by the plain rule
 last-well-formed : (s : State) → WellFormed s → (rs : List Request) → WellFormed (last s rs)
 last-well-formed s W [] = W
-last-well-formed s W (T payload ∷ rs) = last-well-formed _ (take-well-formed s W payload) rs
-last-well-formed s W (G offset ∷ rs) = last-well-formed _ (give_back-keeps s W offset).well_formed rs
+last-well-formed s W (T payload ∷ rs) = last-well-formed (take s payload).state (take-well-formed s W payload) rs
+last-well-formed s W (G offset ∷ rs) = last-well-formed (give_back s offset).state (give_back-keeps s W offset).well_formed rs
 
 pub worked-figures : figures (last (fresh 1 1024) requests)
     ≡ record { held_blocks = 4; held_bytes = 368; free_small = 0; free_large = 1; remainder = 416; free_word = 484; largest = 404 }

@@ -10,7 +10,7 @@ use Rattle.paper.specs.Blocks.{Block, State, block, blocks, free, free_sum, held
 use Rattle.paper.specs.Counting.{figures, free_large_one, free_small_one, held_one}
 use Rattle.paper.specs.GivingBack.{give_back, give_back_large, give_back_small, settle}
 use Rattle.paper.specs.GoingHome.{go_home, home_by, one_home}
-use Rattle.paper.specs.Granting.{Choice, R, Result, carry_out, choose, choose_large, choose_small, cut_high, cut_low, exact_bin, first_of_bin, high_end, larger_bin, low-end, refusal, refused, smallest_bin, take, take_first, take_part, take_whole}
+use Rattle.paper.specs.Granting.{Choice, R, Result, carry_out, choose, choose_large, choose_small, cut_high, cut_low, exact_bin, first_of_bin, high_end, larger_bin, low_end, refusal, refused, smallest_bin, take, take_first, take_part, take_whole}
 use Rattle.paper.specs.LargestGrant.{greatest_grant, if_granted, largest_grant}
 use Rattle.paper.specs.Layout.{large}
 use Rattle.paper.specs.LookingUp.{by_offset, look_up}
@@ -43,7 +43,7 @@ module _ (t : ℕ) (s : State) where
   carry-out-any (high_end b) = refl
   carry-out-any (exact_bin b) = refl
   carry-out-any (larger_bin z b) = refl
-  carry-out-any (low-end b) = refl
+  carry-out-any (low_end b) = refl
   carry-out-any (refusal k) = refl
 
   pub take-any : (size : ℕ) → take (with_top t s) size ≡ retopped t (take s size)

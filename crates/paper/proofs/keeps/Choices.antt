@@ -7,7 +7,7 @@ use Rattle.paper.proofs.bins.Smallest.{smallest-found}
 use Rattle.paper.specs.Answers.{no_room, no_size}
 use Rattle.paper.specs.Bins.{first}
 use Rattle.paper.specs.Blocks.{State}
-use Rattle.paper.specs.Granting.{Choice, choose, choose_large, choose_small, exact_bin, first_of_bin, high_end, larger_bin, low-end, refusal, smallest_bin}
+use Rattle.paper.specs.Granting.{Choice, choose, choose_large, choose_small, exact_bin, first_of_bin, high_end, larger_bin, low_end, refusal, smallest_bin}
 use Rattle.paper.specs.Layout.{large}
 use Rattle.words.specs.Choice.{by<, by=, ifs}
 
@@ -18,7 +18,7 @@ pub record Choices (s : State) (payload b : ℕ) (P : Choice → Type 0) : Type 
   pub from-high-end : b < large → b + 8 ≤ s.rest → P (high_end b)
   pub from-exact : large ≤ b → first (s.bins b) ≢ 0 → P (exact_bin b)
   pub from-larger : large ≤ b → (z : ℕ) → b + large ≤ z → first (s.bins z) ≢ 0 → P (larger_bin z b)
-  pub from-low-end : large ≤ b → b + 8 ≤ s.rest → P (low-end b)
+  pub from-low-end : large ≤ b → b + 8 ≤ s.rest → P (low_end b)
 
 pub by-choices : (s : State) (payload : ℕ) (P : Choice → Type 0) → Choices s payload (block_size payload) P → P (choose s payload)
 unfolding choose choose_small choose_large

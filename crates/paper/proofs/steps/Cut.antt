@@ -12,7 +12,7 @@ use Rattle.paper.proofs.steps.Segment.{after_same, seg-frame}
 use Rattle.paper.proofs.sheet.Stores.{Elsewhere, Good, finish, puts}
 use Rattle.paper.proofs.runs.Walk.{In, flag_past, free_sum-append, in-mid, total-append}
 use Rattle.paper.specs.Blocks.{State, block, blocks, end, free_sum, held, remainder, total}
-use Rattle.paper.specs.Governed.{head_word, header_word, sheet, walk}
+use Rattle.paper.specs.Governed.{block_word, head_word, header_word, sheet, walk}
 use Rattle.paper.specs.Layout.{blocks_at, end_at, free_word_at}
 use Rattle.paper.specs.Sheet.{Holds, write}
 use Rattle.words.specs.Choice.{by<, if<, if=, ifs}
@@ -46,7 +46,7 @@ module _ (s : State) (b : ℕ) (b8 : 8 ≤ b) (room : b + 8 ≤ s.rest) where
       seg-frame s cut s.low (block s.rest remainder ∷ []) (block (s.rest - b) remainder ∷ block b held ∷ []) s.high a refl refl refl refl
       (ap (λ (k : ℕ). blocks_at + k) total-same) (omega arith)
       (λ l z. header-same (a / 8) (omega arith) (omega arith))
-      (λ n l. after_same _ s.high _ 1 1 a refl)
+      (λ n l. after_same (block_word s.top n s.bins) s.high (blocks_at + total s.low + total (block s.rest remainder ∷ [])) 1 1 a refl)
       (λ n l m. inl (by< a (low-end + (s.rest - b))
       (λ i. let o : a - low-end ≢ 0 = omega arith in simp ifs)
       (λ i. let o : a - (low-end + (s.rest - b)) ≢ 0 = omega arith in let j : a < low-end + (s.rest - b) + b = omega arith in simp ifs)))

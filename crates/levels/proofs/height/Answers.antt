@@ -1,0 +1,14 @@
+-- `height` is the smaller of the two, and 1 needs no count.
+use native.Mathlib.Omega.{arith}
+use borrow.Author.Rules.{rules}
+use Rattle.paper.specs.Governed.{height}
+use Rattle.levels.proofs.height.Goals as goal
+
+pub returns-then-top-eq1 : goal.returns-then-top-eq1
+returns-then-top-eq1 c = omega arith
+
+pub returns-then-zeros-top : goal.returns-then-zeros-top
+returns-then-zeros-top c = omega arith
+
+pub returns : goal.returns
+returns c = omega arith

@@ -1,0 +1,27 @@
+-- `start`, by its tests.
+use native.Mathlib.Omega.{arith}
+use lib.Count.{leading_le}
+use borrow.Author.Rules.{rules}
+use Rattle.levels.specs.Levels.{start_of}
+use Rattle.words.specs.Choice.{if=-yes, if=-no}
+use mathlib.Core.Path.{sym, ◌∙◌}
+use Rattle.levels.proofs.start.Goals as goal
+
+pub returns-then-top-eq1 : goal.returns-then-top-eq1
+unfolding start_of
+returns-then-top-eq1 c = sym (if=-yes _ _ _ _ c.if-top-eq1.true)
+
+pub overflow_sub-bits : goal.overflow_sub-bits
+overflow_sub-bits c = leading_le 32 _
+
+pub returns-then-bits-eq0 : goal.returns-then-bits-eq0
+unfolding start_of
+returns-then-bits-eq0 c = sym (if=-no _ _ _ _ c.if-top-eq1.false ∙ if=-yes _ _ _ _ c.if-bits-eq0.true)
+
+pub returns-then-top-bits : goal.returns-then-top-bits
+unfolding start_of
+returns-then-top-bits c = sym (if=-no _ _ _ _ c.if-top-eq1.false ∙ if=-no _ _ _ _ c.if-bits-eq0.false ∙ omega arith)
+
+pub returns : goal.returns
+unfolding start_of
+returns c = sym (if=-no _ _ _ _ c.if-top-eq1.false ∙ if=-no _ _ _ _ c.if-bits-eq0.false ∙ omega arith)

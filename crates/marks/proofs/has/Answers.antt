@@ -1,0 +1,10 @@
+-- `has` reads the digit; past the end there is none.
+use mathlib.Core.Path.{sym}
+use native.Mathlib.Nat.{zero-div}
+use lib.ListN.{get_or-eq_default}
+use borrow.Author.Rules.{rules}
+use Rattle.marks.specs.Marks.{bit_at}
+use Rattle.marks.proofs.has.Goals as goal
+
+pub returns-else-q-s : goal.returns-else-q-s
+returns-else-q-s c = sym (simp (get_or-eq_default c.args.s.now 0 c.if-q-s.false, zero-div))

@@ -1,0 +1,10 @@
+-- `marked` is the bit, where there is one.
+use borrow.Author.Rules.{rules}
+use Rattle.marks.proofs.Laws.{mark-yes, mark-no}
+use Rattle.marks.proofs.marked.Goals as goal
+
+pub returns-then-q-eq0 : goal.returns-then-q-eq0
+returns-then-q-eq0 c = search mark-yes
+
+pub returns : goal.returns
+returns c = search mark-no

@@ -1,0 +1,14 @@
+-- `put_in` stores the word with the digit put to 1; past the end nothing is stored.
+use mathlib.Core.Path.{sym}
+use lib.Seq.{set_out}
+use borrow.Author.Rules.{rules}
+use Rattle.marks.specs.Marks.{put_bit_at}
+use Rattle.marks.proofs.Laws.{stored-in}
+use Rattle.marks.proofs.put_in.Goals as goal
+
+pub returns-then-q-s : goal.returns-then-q-s
+returns-then-q-s c = stored-in _ _
+
+pub returns-else-q-s : goal.returns-else-q-s
+unfolding put_bit_at
+returns-else-q-s c = sym (set_out _ _ _ c.if-q-s.false)
