@@ -1,0 +1,17 @@
+-- laying::clear meets its contract: the words are cleared from the front.
+use Prim.Native.Nat.{◌-◌}
+use Rattle.laying.proofs.Clearing.{Clearing, begins, one_more, all}
+use borrow.Author.Rules.{rules}
+use Rattle.laying.proofs.clear.Goals as goal
+
+pub loop-k-init : goal.loop-k-init
+loop-k-init c = begins _
+
+pub loop-k-preserved : goal.loop-k-preserved
+loop-k-preserved c = one_more c.loop-k.invariant c.loop-k-test.true c.put32.ensures
+
+pub shape_of-pool : goal.shape_of-pool
+shape_of-pool c = c.loop-k.invariant.long
+
+pub returns : goal.returns
+returns c = all c.loop-k.invariant c.loop-k-test.false

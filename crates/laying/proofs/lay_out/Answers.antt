@@ -1,0 +1,20 @@
+-- laying::lay_out meets its contract, by its text.
+use Rattle.laying.specs.LayingOut.{lay_out}
+use borrow.Author.Rules.{rules}
+use Rattle.laying.proofs.lay_out.Goals as goal
+
+pub returns : goal.returns
+unfolding lay_out
+returns c =
+    rw (
+      c.put32.ensures,
+      c.free_head.ensures,
+      c.put_field.ensures,
+      c.put64-4.ensures,
+      c.put64-3.ensures,
+      c.put64-2.ensures,
+      c.put64.ensures,
+      c.minus.ensures,
+      c.clear.ensures,
+      c.minus-rest.ensures,
+    )
