@@ -6,7 +6,7 @@
 ghost use Rattle.std.specs.Prelude.{◌≡◌};
 ghost use Rattle.heads.specs.Heads.{head_of, size_of, flags_of, word_of, held_head, free_head, with_p, block_size};
 
-#[derive(Drop)]
+#[derive(Clone, Copy)]
 pub struct Head {
     pub size: u32,
     pub p: bool,

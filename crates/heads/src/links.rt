@@ -68,7 +68,7 @@ pub fn follow(from: u32, word: u32) -> u32
 }
 
 // Both words of a link between two blocks: there, and back by the negated distance.
-#[derive(Drop)]
+#[derive(Clone, Copy)]
 pub struct Pair {
     pub there: u32,
     pub home: u32,

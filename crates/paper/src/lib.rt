@@ -9,14 +9,14 @@ pub use layout::{
 };
 
 // A call is done, with its value, or refused, with the refusal's number.
-#[derive(Drop)]
+#[derive(Clone, Copy)]
 pub enum Answer {
     Done(u32),
     Refused(u8),
 }
 
 // The block that an address is in, by its kind, with its start and its size; or nothing, outside the blocks.
-#[derive(Drop)]
+#[derive(Clone, Copy)]
 pub enum Found {
     Held(u32, u32),
     Free(u32, u32),
@@ -25,7 +25,7 @@ pub enum Found {
 }
 
 // The seven figures of a pool. `largest` is the greatest payload that a take would be granted.
-#[derive(Drop)]
+#[derive(Clone, Copy)]
 pub struct Figures {
     pub held_blocks: u32,
     pub held_bytes: u32,
@@ -37,7 +37,7 @@ pub struct Figures {
 }
 
 // The answer of a call for the figures.
-#[derive(Drop)]
+#[derive(Clone, Copy)]
 pub enum Tally {
     Counted(Figures),
     Refused(u8),
