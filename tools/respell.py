@@ -17,7 +17,7 @@ HUMP = re.compile(r"(?<=[a-z0-9])([A-Z])")
 # definitions, constructors and fields of specs/ that had a dash
 DASHED = """accepted-recall chain-at end-at exact-bin fair-answers false-block false-tests false-word-at figures-of first-of-bin first-tests
 fit-size fit-tests free-at free-flags free-tests free-word-at free-words held-flags high-ok if-awaiting if-left if-seen is-sound is-top
-large-tests larger-bin latest-setting layout-named length-allowed less-sum level-at link-test next-at no-figures no-layout no-piston not-allowed
+large-tests larger-bin latest-setting layout-named length-allowed less-sum level-at link-test next-at no-figures no-layout no-piston not-allowed not-held
 other-layout pick-left pick-seen previous-at reserved-tests rest-between rest-tests same-pools scanned-between size-tests small-bins
 small-next-at small-tests start-at tally-number to-awaited to-left to-seen well-formed x-line""".split()
 

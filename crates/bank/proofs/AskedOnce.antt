@@ -7,7 +7,7 @@ use native.Mathlib.Omega.{arith}
 use lib.ListN.{drop, get_or, length, take as firsts}
 use Rattle.words.specs.Choice.{by=, if=, if=-no, if=-yes}
 use Rattle.words.specs.Words.{Bytes}
-use Rattle.paper.specs.Answers.{not-held}
+use Rattle.paper.specs.Answers.{not_held}
 use Rattle.paper.specs.declared.Answer.TheVariants.{Done, Refused}
 use Rattle.pool.proofs.Holding.{held-there}
 use Rattle.pool.proofs.Named.{asked-held, asked-told}
@@ -24,7 +24,7 @@ module _ (bs bank : List ℕ) (piston : ℕ) where
   by_order : (k : ℕ) → ask_all bs bank piston ≡ Refused k → ordering piston k ≡ refusal bs bank piston
   unfolding ordering
   by_order k e =
-      by= k not-held (λ h. if=-yes k not-held _ _ h ∙ refusal-unnamed bs bank piston k e h) (λ n. if=-no k not-held _ _ n ∙ refusal-unread bs bank piston k e n)
+      by= k not_held (λ h. if=-yes k not_held _ _ h ∙ refusal-unnamed bs bank piston k e h) (λ n. if=-no k not_held _ _ n ∙ refusal-unread bs bank piston k e n)
 
   pub asks-refused : (k : ℕ) → ask_all bs bank piston ≡ Refused k → (why : ℕ) → why ≡ ordering piston k → Asks bs bank piston (record { why = why; long = 0 })
   asks-refused k e why f =

@@ -7,7 +7,7 @@ use Prim.Native.Nat.{ℕ, ◌<◌, ◌≤◌}
 use native.Mathlib.Omega.{arith}
 use lib.ListN.{length}
 use Rattle.words.specs.Choice.{by<, by=, if<-no, if<-yes, if=, if=-no, if=-yes}
-use Rattle.paper.specs.Answers.{not_allowed, not-held, not_sound, number}
+use Rattle.paper.specs.Answers.{not_allowed, not_held, not_sound, number}
 use Rattle.paper.specs.declared.Answer.{Answer}
 use Rattle.paper.specs.declared.Answer.TheVariants.{Done, Refused}
 use Rattle.pool.proofs.Accepting.{Accepted}
@@ -71,7 +71,7 @@ module _ (bs bank : List ℕ) (piston : ℕ) where
       go (Done w) f = ap (past piston) (sym (if=-yes 0 0 0 not_named refl)) ∙ asked w f (Done v) e
 
   -- it does not
-  pub refusal-unnamed : (k : ℕ) → ask_all bs bank piston ≡ Refused k → k ≡ not-held → past piston not_named ≡ refusal bs bank piston
+  pub refusal-unnamed : (k : ℕ) → ask_all bs bank piston ≡ Refused k → k ≡ not_held → past piston not_named ≡ refusal bs bank piston
   refusal-unnamed k e h = go (inspect bs) refl
     where
       go : (a : Answer) → inspect bs ≡ a → past piston not_named ≡ refusal bs bank piston
@@ -80,22 +80,22 @@ module _ (bs bank : List ℕ) (piston : ℕ) where
           let same : j ≡ k = cc in
           absurd (not_five (inspect-numbers bs j f) (same ∙ h))
         where
-          not_five : (j ≡ not_allowed) ⊎ (j ≡ not_sound) → j ≡ not-held → ⊥
+          not_five : (j ≡ not_allowed) ⊎ (j ≡ not_sound) → j ≡ not_held → ⊥
           not_five (inl x) y = omega arith
           not_five (inr x) y = omega arith
       go (Done w) f = ap (past piston) (sym (if=-no k 0 0 not_named (λ z. omega arith))) ∙ asked w f (Refused k) e
 
   -- the pool was not read
-  pub refusal-unread : (k : ℕ) → ask_all bs bank piston ≡ Refused k → k ≢ not-held → k ≡ refusal bs bank piston
+  pub refusal-unread : (k : ℕ) → ask_all bs bank piston ≡ Refused k → k ≢ not_held → k ≡ refusal bs bank piston
   refusal-unread k e n = go (inspect bs) refl
     where
       go : (a : Answer) → inspect bs ≡ a → k ≡ refusal bs bank piston
       go (Refused j) f = let g : Refused k ≡ Refused j = sym e ∙ ask-all-refused bs bank piston j f in let same : k ≡ j = cc in same ∙ unread j f
       go (Done w) f = other (ask-all-either bs bank piston w f)
         where
-          other : ((v : ℕ) × (ask_all bs bank piston ≡ Done v)) ⊎ (ask_all bs bank piston ≡ Refused not-held) → k ≡ refusal bs bank piston
+          other : ((v : ℕ) × (ask_all bs bank piston ≡ Done v)) ⊎ (ask_all bs bank piston ≡ Refused not_held) → k ≡ refusal bs bank piston
           other (inl g) = never k g.0 (sym e ∙ g.1)
-          other (inr g) = let x : Refused k ≡ Refused not-held = sym e ∙ g in let same : k ≡ not-held = cc in absurd (n same)
+          other (inr g) = let x : Refused k ≡ Refused not_held = sym e ∙ g in let same : k ≡ not_held = cc in absurd (n same)
 
 -- ---- where nothing refuses
 
@@ -129,6 +129,6 @@ module _ (bs bank : List ℕ) (piston : ℕ) where
           zero_number (inr x) y = omega arith
       go (Done v) f n l m = record { below = l; inspected = inspect-value bs v f; asked = named (ask-all-either bs bank piston v f) }
         where
-          named : ((w : ℕ) × (ask_all bs bank piston ≡ Done w)) ⊎ (ask_all bs bank piston ≡ Refused not-held) → (w : ℕ) × (ask_all bs bank piston ≡ Done w)
+          named : ((w : ℕ) × (ask_all bs bank piston ≡ Done w)) ⊎ (ask_all bs bank piston ≡ Refused not_held) → (w : ℕ) × (ask_all bs bank piston ≡ Done w)
           named (inl g) = g
           named (inr g) = absurd (omega (arith, if=-no {A = ℕ} (number (ask_all bs bank piston)) 0 0 not_named (λ y. omega (arith, ap number g)), m))

@@ -1,7 +1,7 @@
 -- What the code asks of the pool for a call, at one reading.
 use Rattle.std.specs.Prelude.{◌≡◌, List, ℕ, get_or}
 use Rattle.words.specs.Choice.{if=}
-use Rattle.paper.specs.Answers.{not-held}
+use Rattle.paper.specs.Answers.{not_held}
 use Rattle.paper.specs.declared.Answer.TheVariants.{Done}
 use Rattle.pool.specs.Calls.{ask}
 use Rattle.bank.specs.Calls.{not_named, past, refusal}
@@ -9,7 +9,7 @@ use Rattle.bank.specs.declared.naming.Told.{Told}
 
 -- the pool's refusal of the whole list, as one of the bank's
 unfoldable pub ordering : ℕ → ℕ → ℕ
-ordering piston why = if= why not-held (past piston not_named) why
+ordering piston why = if= why not_held (past piston not_named) why
 
 -- the first refusal; where there is none, the bytes of the payload that the piston names, 0 where it is empty
 pub record Asks (bs bank : List ℕ) (piston : ℕ) (r : Told) : Type 0 where

@@ -27,8 +27,8 @@ no_size = 3
 abbrev pub no_room : ℕ
 no_room = 4
 
-abbrev pub not-held : ℕ
-not-held = 5
+abbrev pub not_held : ℕ
+not_held = 5
 
 abbrev pub list_length : ℕ
 list_length = 6

@@ -6,7 +6,7 @@ use Rattle.paper.specs.declared.Answer.{Answer}
 use Rattle.paper.specs.declared.Answer.TheVariants.{Done, Refused}
 use Rattle.paper.specs.declared.Tally.{Tally}
 use Rattle.paper.specs.declared.Tally.TheVariants.{Counted, Refused as Uncounted}
-use Rattle.paper.specs.Answers.{Out, out, not_allowed, not_sound, not-held, list_length, no_layout}
+use Rattle.paper.specs.Answers.{Out, out, not_allowed, not_sound, not_held, list_length, no_layout}
 use Rattle.paper.specs.Allowed.{Allowed, allowed}
 use Rattle.paper.specs.Blocks.{State, blocks}
 use Rattle.paper.specs.Runs.{sum_of}
@@ -74,7 +74,7 @@ ask_call r offset = by_reading r Refused (λ s. ask s offset)
 
 -- about the offset at a place of a list, 0 past its end: refused as asking about any of them would be, also where one stands there twice
 abbrev pub ask_all_call : Reading → List ℕ → ℕ → Answer
-ask_all_call r offsets place = by_reading r Refused (λ s. when (all_held s offsets) (ask_one s (get_or offsets place 0)) (Refused not-held))
+ask_all_call r offsets place = by_reading r Refused (λ s. when (all_held s offsets) (ask_one s (get_or offsets place 0)) (Refused not_held))
 
 -- "A refused lend returns the empty part at the pool's end.": where the part starts and where it ends
 abbrev pub lend_from : Reading → List ℕ → ℕ → ℕ

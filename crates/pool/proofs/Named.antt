@@ -10,7 +10,7 @@ use lib.ListN.{get_or, length}
 use Rattle.words.specs.Choice.{by=, if=, if=-no, if=-yes, when, when-no, when-yes}
 use Rattle.words.specs.Words.{Bytes}
 use Rattle.paper.proofs.runs.Asking.{ask-done}
-use Rattle.paper.specs.Answers.{not_allowed, not-held, not_sound}
+use Rattle.paper.specs.Answers.{not_allowed, not_held, not_sound}
 use Rattle.paper.specs.AskingAll.{all_held, ask_one, each_once, is_done}
 use Rattle.paper.specs.Bins.{count}
 use Rattle.paper.specs.Calls.{Reading, Reads, misfit, broken, sound, ask_call, ask_all_call, inspect_call}
@@ -144,20 +144,20 @@ module _ (bs offsets : List ℕ) where
         go (sound s) f = absurd (let z : ◌≡◌ {A = ℕ} 0 1 = cc in omega arith)
 
     -- else it goes by what asking says of each
-    ask-all-is : (v : ℕ) → inspect bs ≡ Done v → ask_all bs offsets place ≡ when named (told bs (get_or offsets place 0)) (Refused not-held)
+    ask-all-is : (v : ℕ) → inspect bs ≡ Done v → ask_all bs offsets place ≡ when named (told bs (get_or offsets place 0)) (Refused not_held)
     unfolding inspect ask_all ask all_held ask_one
     ask-all-is v e = go (read bs) e
       where
         go : (x : Reading) → inspect_call x bs ≡ Done v → ask_all_call x offsets place
-            ≡ when (each_once (λ o. is_done (ask_call x o)) offsets) (if= (get_or offsets place 0) 0 (Done 0) (ask_call x (get_or offsets place 0))) (Refused not-held)
+            ≡ when (each_once (λ o. is_done (ask_call x o)) offsets) (if= (get_or offsets place 0) 0 (Done 0) (ask_call x (get_or offsets place 0))) (Refused not_held)
         go misfit f = absurd (let z : ◌≡◌ {A = ℕ} 0 1 = cc in omega arith)
         go broken f = absurd (let z : ◌≡◌ {A = ℕ} 0 1 = cc in omega arith)
         go (sound s) f = refl
 
-    pub ask-all-either : (v : ℕ) → inspect bs ≡ Done v → ((w : ℕ) × (ask_all bs offsets place ≡ Done w)) ⊎ (ask_all bs offsets place ≡ Refused not-held)
+    pub ask-all-either : (v : ℕ) → inspect bs ≡ Done v → ((w : ℕ) × (ask_all bs offsets place ≡ Done w)) ⊎ (ask_all bs offsets place ≡ Refused not_held)
     ask-all-either v e = go named refl
       where
-        go : (b : Bool) → named ≡ b → ((w : ℕ) × (ask_all bs offsets place ≡ Done w)) ⊎ (ask_all bs offsets place ≡ Refused not-held)
+        go : (b : Bool) → named ≡ b → ((w : ℕ) × (ask_all bs offsets place ≡ Done w)) ⊎ (ask_all bs offsets place ≡ Refused not_held)
         go true f = let t = named-told f place in inl (t.0, ask-all-is v e ∙ when-yes named _ _ f ∙ t.1)
         go false f = inr (ask-all-is v e ∙ when-no named _ _ f)
 
@@ -205,7 +205,7 @@ module _ (bs offsets : List ℕ) where
         go : (b : Bool) → named bs offsets ≡ b → named bs offsets ≡ true
         go true f = f
         go false f =
-            let g : Refused not-held ≡ Done v = sym (ask-all-is bs offsets place _ inspected ∙ when-no (named bs offsets) _ _ f) ∙ e in
+            let g : Refused not_held ≡ Done v = sym (ask-all-is bs offsets place _ inspected ∙ when-no (named bs offsets) _ _ f) ∙ e in
             absurd (let z : ◌≡◌ {A = ℕ} 0 1 = cc in omega arith)
 
     pub asked-accepted : Bytes bs → Accepted bs

@@ -167,11 +167,11 @@ module _ {s m₀ : List ℕ} {c e from n0 sum0 : ℕ} {m : List ℕ} {p due n su
 
       -- it is not held as is due
       module _ (l : f ≡ due → ⊥) {d : Bool} (ed : d ≡ pass (free_at s w due p)) where
-        not-held : flags_at s p ≡ due → ⊥
-        not-held v = l (flags ∙ v)
+        not_held : flags_at s p ≡ due → ⊥
+        not_held v = l (flags ∙ v)
 
         pub scan-unfree : d ≡ false → stray ≡ Run
-        scan-unfree r = sym (g.all ∙ unfree s c e g.fuel p due n m sum ne fits not-held (sym (free_of s due p ew ed) ∙ r))
+        scan-unfree r = sym (g.all ∙ unfree s c e g.fuel p due n m sum ne fits not_held (sym (free_of s due p ew ed) ∙ r))
 
         pub scan-free : {m' : List ℕ} {t : ℕ} → e < 4294967296 → d ≡ true → m' ≡ put_bit_at m (p / 8) 1 → t ≡ 2 * c + 1 → t < 4294967296
             → Scanning s m₀ c e from n0 sum0 m' (p + z) t (n + 1) (sum + z)
@@ -185,7 +185,7 @@ module _ {s m₀ : List ℕ} {c e from n0 sum0 : ℕ} {m : List ℕ} {p due n su
               fuel = g.fuel - 1;
               enough = omega (arith, fit, g.enough);
               all = g.all ∙ ap (λ (v : ℕ). scan bit_marks s v c e p due n m sum) (omega (arith, g.enough, fit))
-                  ∙ past-free s c e (g.fuel - 1) p due n m sum ne fits not-held (sym (free_of s due p ew ed) ∙ r)
+                  ∙ past-free s c e (g.fuel - 1) p due n m sum ne fits not_held (sym (free_of s due p ew ed) ∙ r)
                   ∙ (λ i. scan bit_marks s (g.fuel - 1) c e (p + sym size i) (sym et i) (next n i) (sym em i) (sum + sym size i));
             }
           where

@@ -10,7 +10,7 @@ use Rattle.paper.proofs.reads.Stands.{Stands}
 use Rattle.paper.proofs.runs.HeldPlaces.{held_at}
 use Rattle.paper.proofs.runs.HeldWalk.{held-within}
 use Rattle.paper.proofs.runs.LookedUp.{by-held}
-use Rattle.paper.specs.Answers.{not-held}
+use Rattle.paper.specs.Answers.{not_held}
 use Rattle.paper.specs.Blocks.{State}
 use Rattle.paper.specs.declared.Answer.{Answer}
 use Rattle.paper.specs.declared.Answer.TheVariants.{Done, Refused}
@@ -37,7 +37,7 @@ by-found Nothing offset f g = refl
 module _ (s : State) (bs : List ℕ) (S : Stands s bs) (offset : ℕ) where
   -- looked up in the bytes, in the words of what is held there
   pub looked-up : {A : Type 0} (f g : ℕ → A)
-      → by_answer (held_there (walk.look_up bs offset) offset) f g ≡ if= (held_at s offset) 0 (f not-held) (g (held_at s offset))
+      → by_answer (held_there (walk.look_up bs offset) offset) f g ≡ if= (held_at s offset) 0 (f not_held) (g (held_at s offset))
   looked-up f g =
       ap (λ (x : Found). by_answer (held_there x offset) f g) (look-up-read s bs S offset) ∙ by-found (look_up s offset) offset f g
       ∙ by-held offset f (λ q z. g z) s S.well_formed.sized

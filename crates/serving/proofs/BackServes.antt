@@ -13,7 +13,7 @@ use Rattle.paper.proofs.keeps.BackKeeps.{give_back-keeps, give_back-none, give_b
 use Rattle.paper.proofs.reads.Stands.{Stands}
 use Rattle.paper.proofs.runs.HeldPlaces.{held_at}
 use Rattle.paper.proofs.runs.HeldWalk.{held-within}
-use Rattle.paper.specs.Answers.{Out, out, not-held}
+use Rattle.paper.specs.Answers.{Out, out, not_held}
 use Rattle.paper.specs.Blocks.{State}
 use Rattle.paper.specs.Calls.{leaves}
 use Rattle.paper.specs.declared.Answer.{Answer}
@@ -30,7 +30,7 @@ module _ (s : State) (bs : List ℕ) (S : Stands s bs) (bytes : Bytes bs) (offse
   none-back : held_at s offset ≡ 0 → model.give_back bs offset ≡ leaves (paper.give_back s offset) bs
   unfolding model.give_back Holds
   none-back e =
-      looked-up s bs S offset _ _ ∙ if=-yes (held_at s offset) 0 _ _ e ∙ ap (out (Refused not-held)) (sym S.holds)
+      looked-up s bs S offset _ _ ∙ if=-yes (held_at s offset) 0 _ _ e ∙ ap (out (Refused not_held)) (sym S.holds)
       ∙ ap (λ (r : Result). leaves r bs) (sym (give_back-none s S.well_formed offset e))
 
   -- its size and its start are those of the walk

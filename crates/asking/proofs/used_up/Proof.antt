@@ -16,8 +16,8 @@ decreases-loop m₀ offsets i₀ m i = length offsets - i
 past-none : tie.Need-loop-preserved invariant-loop decreases-loop
 past-none c = let turn = c.before.before in skips turn.before.loop.invariant turn.loop-test.true c.if1.true
 
-not-held : tie.Need-returns invariant-loop decreases-loop
-not-held c =
+not_held : tie.Need-returns invariant-loop decreases-loop
+not_held c =
     let ask = c.before in
     let offset = ask.before.before.before in
     let turn = offset.before.before in
@@ -48,7 +48,7 @@ used-up-spec =
     (λ c κs. search rules)
     (λ c κs. search rules)
     (λ c. search rules)
-    not-held
+    not_held
     (λ c κs. search rules)
     (λ c. search rules)
     past-held

@@ -13,7 +13,7 @@ use Rattle.paper.proofs.runs.LookedUp.{look_up-held, look_up-none}
 use Rattle.paper.proofs.keeps.Kept.{Kept, kept_same, kept-shaped, shaped-then, sized-high, sized-low}
 use Rattle.paper.proofs.runs.Splitting.{sized-mid-parts}
 use Rattle.paper.specs.declared.Answer.TheVariants.{Done, Refused}
-use Rattle.paper.specs.Answers.{not-held}
+use Rattle.paper.specs.Answers.{not_held}
 use Rattle.paper.specs.Blocks.{State, block, held}
 use Rattle.paper.specs.GivingBack.{give_back, give_back_large, give_back_small}
 use Rattle.paper.specs.GoingHome.{go_home}
@@ -32,7 +32,7 @@ held-sized s W offset l = go (held-at-lies s W offset l)
 
 -- ---- the ways of a give-back
 
-pub give_back-none : (s : State) → WellFormed s → (offset : ℕ) → held_at s offset ≡ 0 → give_back s offset ≡ refused not-held s
+pub give_back-none : (s : State) → WellFormed s → (offset : ℕ) → held_at s offset ≡ 0 → give_back s offset ≡ refused not_held s
 unfolding give_back
 give_back-none s W offset e = look_up-none offset _ _ s W.sized e
 
@@ -83,7 +83,7 @@ give_back-refused s W offset k a =
 pub give_back-done : (s : State) → WellFormed s → (offset v : ℕ) → (give_back s offset).answer ≡ Done v → held_at s offset ≡ v + 4
 give_back-done s W offset v a =
     by= (held_at s offset) 0
-    (λ e. let d : Refused not-held ≡ Done v = sym (ap (λ (r : Result). r.answer) (give_back-none s W offset e)) ∙ a in
+    (λ e. let d : Refused not_held ≡ Done v = sym (ap (λ (r : Result). r.answer) (give_back-none s W offset e)) ∙ a in
     absurd (let z : ◌≡◌ {A = ℕ} 0 1 = cc in omega arith))
     (λ n. let d : Done (held_at s offset - 4) ≡ Done v = sym (ap (λ (r : Result). r.answer) (give_back-some s W offset n)) ∙ a in
     let e : held_at s offset - 4 ≡ v = cc in

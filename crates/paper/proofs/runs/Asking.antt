@@ -10,7 +10,7 @@ use Rattle.paper.proofs.runs.HeldWalk.{held-within}
 use Rattle.paper.proofs.runs.LookedUp.{look_up-held, look_up-none}
 use Rattle.paper.proofs.runs.Splitting.{in_parts, starts-here}
 use Rattle.paper.proofs.runs.Walk.{In, sized-parts}
-use Rattle.paper.specs.Answers.{not-held}
+use Rattle.paper.specs.Answers.{not_held}
 use Rattle.paper.specs.Blocks.{Block, State, block, blocks, end, held}
 use Rattle.paper.specs.declared.Answer.TheVariants.{Done, Refused}
 use Rattle.paper.specs.GivingBack.{ask}
@@ -32,7 +32,7 @@ held_at-in s q z P S i =
     if<-no (q + 4) 4 _ _ (omega arith) ∙ ap (starts_at held_size (blocks s) blocks_at) e ∙ starts-in held_size (blocks s) blocks_at 1 q (block z held) P S i
 
 module _ (s : State) (W : WellFormed s) (offset : ℕ) where
-  pub ask-none : held_at s offset ≡ 0 → ask s offset ≡ Refused not-held
+  pub ask-none : held_at s offset ≡ 0 → ask s offset ≡ Refused not_held
   unfolding ask
   ask-none e = look_up-none offset _ _ s W.sized e
 
@@ -48,7 +48,7 @@ module _ (s : State) (W : WellFormed s) (offset : ℕ) where
   pub ask-done : (v : ℕ) → ask s offset ≡ Done v → (held_at s offset ≡ v + 4) × (offset + v ≤ end s)
   ask-done v a =
       by= (held_at s offset) 0
-      (λ e. let d : Refused not-held ≡ Done v = sym (ask-none e) ∙ a in absurd (let y : ◌≡◌ {A = ℕ} 0 1 = cc in omega arith))
+      (λ e. let d : Refused not_held ≡ Done v = sym (ask-none e) ∙ a in absurd (let y : ◌≡◌ {A = ℕ} 0 1 = cc in omega arith))
       (λ n. let d : Done (held_at s offset - 4) ≡ Done v = sym (ask-held n) ∙ a in
       let w : held_at s offset - 4 ≡ v = cc in
       let h = held-within s W offset n in

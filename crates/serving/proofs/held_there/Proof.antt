@@ -11,14 +11,14 @@ use Rattle.paper.specs.contracts.Found.{the_type}
 use Rattle.paper.specs.declared.Answer.TheVariants.{Refused}
 use Rattle.paper.specs.declared.Found.{Found}
 use Rattle.paper.specs.declared.Found.TheVariants.{Held, Free, Remainder, Nothing}
-use Rattle.paper.specs.Answers.{not-held}
+use Rattle.paper.specs.Answers.{not_held}
 use Rattle.serving.specs.Models as model
 use Rattle.words.specs.Choice.{if=-yes, if=-no}
 use Rattle.serving.proofs.held_there.Statement.{statement}
 use Rattle.serving.proofs.held_there.Tie as tie
 
 -- any other block than a held one, or none
-other : (x : Found) (offset : ℕ) → OneOf (1 ∷ 2 ∷ 3 ∷ []) (tag_of the_type x) → Refused not-held ≡ model.held_there x offset
+other : (x : Found) (offset : ℕ) → OneOf (1 ∷ 2 ∷ 3 ∷ []) (tag_of the_type x) → Refused not_held ≡ model.held_there x offset
 unfolding model.held_there
 other (Held q z) offset (inl e) = absurd (omega arith)
 other (Held q z) offset (inr (inl e)) = absurd (omega arith)
