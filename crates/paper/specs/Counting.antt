@@ -4,7 +4,7 @@ use Rattle.words.specs.Choice.{if=, if<}
 use Rattle.classes.specs.Class.{class_of}
 use Rattle.paper.specs.declared.Figures.{Figures}
 use Rattle.paper.specs.Layout.{large}
-use Rattle.paper.specs.Blocks.{Kind, held, free, remainder, Block, block, State, size, blocks, free_sum}
+use Rattle.paper.specs.Blocks.{held, free, remainder, Block, block, State, blocks, free_sum}
 use Rattle.paper.specs.Runs.{sum_of, held_size}
 use Rattle.paper.specs.LargestGrant.{largest_grant}
 

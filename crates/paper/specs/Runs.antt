@@ -1,7 +1,7 @@
 -- Parts of a run of "blocks end to end", which starts at p: the blocks below a place, those from a place on, and what stands at a place.
 use Rattle.std.specs.Prelude.{List, [], ◌∷◌, ◌++◌, ℕ, ◌+◌}
 use Rattle.words.specs.Choice.{if=, if<}
-use Rattle.paper.specs.Blocks.{Kind, held, free, remainder, Block, block, size}
+use Rattle.paper.specs.Blocks.{held, free, remainder, Block, block, size}
 
 -- the blocks that start below a
 unfoldable pub under : List Block → ℕ → ℕ → List Block

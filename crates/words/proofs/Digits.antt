@@ -1,6 +1,6 @@
 -- The laws of digits in bytes, each once over the width, by induction on it. They hold wherever the digits stand.
-use Rattle.std.proofs.Common.{◌≡◌, ℕ, zero, suc, ◌+◌, ◌*◌, ◌/◌, ◌%◌, ◌^◌, ◌<◌, ◌≤◌, ◌≢◌, ◌⊎◌, List, [], ◌∷◌, length, get_or, set, sym, refl, ap, ◌∙◌, ap₂, inl, inr, ⊎_elim, add-zero, add_assoc, mod-lt, mod-eq_of_lt, mul_assoc, mul_comm, add_comm, suc-add, one-mul, pow-suc, zero-add, mul-add, div-one, add-one, arith, length-set, get_or-set_other, get_or-set_same, set-set}
-use native.Mathlib.Nat.{div-div-eq-div-mul, pow-succ', pow-zero, mod-one, one-le-pow, mul-add-mod_self_left, mul-add-div, div-eq_of_lt}
+use Rattle.std.proofs.Common.{◌≡◌, ℕ, zero, suc, ◌+◌, ◌*◌, ◌/◌, ◌%◌, ◌^◌, ◌<◌, ◌≤◌, ◌≢◌, ◌⊎◌, List, [], ◌∷◌, length, get_or, set, sym, refl, ap, ◌∙◌, ap₂, inl, inr, ⊎_elim, add-zero, add_assoc, mul_assoc, mul_comm, add_comm, suc-add, one-mul, pow-suc, zero-add, mul-add, div-one, add-one, arith, length-set, get_or-set_other, get_or-set_same, set-set}
+use native.Mathlib.Nat.{div-div-eq-div-mul, pow-succ', pow-zero, mod-one, one-le-pow}
 use lib.ListN.{get_or-eq_default}
 use lib.Seq.{set_out, set_comm, set-get_or}
 use lib.Arith.{mod-mul}

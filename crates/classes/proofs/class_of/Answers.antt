@@ -1,7 +1,6 @@
 -- classes::class_of meets its contract: at the two ends by the first class and the last, and between them by the bits of payload - 1.
 -- What it answers comes first, and then that no step leaves its range.
 use Prim.Native.Nat.{ℕ, ◌-◌, ◌<◌, ◌≤◌}
-use borrow.Author.Rules.{rules}
 use native.Mathlib.Omega.{arith}
 use Rattle.classes.proofs.Class.{first-class, no-class}
 use Rattle.classes.proofs.TopBits.{TopBits, top-bits, class-by-bits}

@@ -1,6 +1,5 @@
 -- `height` is the smaller of the two, and 1 needs no count.
 use native.Mathlib.Omega.{arith}
-use borrow.Author.Rules.{rules}
 use Rattle.paper.specs.Governed.{height}
 use Rattle.levels.proofs.height.Goals as goal
 

@@ -1,7 +1,6 @@
 -- `start`, by its tests.
 use native.Mathlib.Omega.{arith}
 use lib.Count.{leading_le}
-use borrow.Author.Rules.{rules}
 use Rattle.levels.specs.Levels.{start_of}
 use Rattle.words.specs.Choice.{if=-yes, if=-no}
 use mathlib.Core.Path.{sym, ◌∙◌}

@@ -1,6 +1,5 @@
 -- `top`, by the level word.
 use mathlib.Core.Path.{sym, ◌∙◌}
-use borrow.Author.Rules.{rules}
 use Rattle.levels.specs.Levels.{top_of}
 use Rattle.words.specs.Choice.{if=-yes, if=-no}
 use Rattle.levels.proofs.top.Goals as goal

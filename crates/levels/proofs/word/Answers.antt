@@ -1,6 +1,5 @@
 -- `word`: past 17 the difference is 0.
 use native.Mathlib.Omega.{arith}
-use borrow.Author.Rules.{rules}
 use Rattle.levels.proofs.word.Goals as goal
 
 pub returns-then-level-gt17 : goal.returns-then-level-gt17

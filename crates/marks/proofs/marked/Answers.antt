@@ -1,5 +1,4 @@
 -- `marked` is the bit, where there is one.
-use borrow.Author.Rules.{rules}
 use Rattle.marks.proofs.Laws.{mark-yes, mark-no}
 use Rattle.marks.proofs.marked.Goals as goal
 

@@ -1,7 +1,6 @@
 -- `put_in` stores the word with the digit put to 1; past the end nothing is stored.
 use mathlib.Core.Path.{sym}
 use lib.Seq.{set_out}
-use borrow.Author.Rules.{rules}
 use Rattle.marks.specs.Marks.{put_bit_at}
 use Rattle.marks.proofs.Laws.{stored-in}
 use Rattle.marks.proofs.put_in.Goals as goal

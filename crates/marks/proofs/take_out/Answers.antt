@@ -2,7 +2,6 @@
 use mathlib.Core.Path.{sym}
 use lib.Bits.{and_le_l}
 use lib.Seq.{set_out}
-use borrow.Author.Rules.{rules}
 use Rattle.marks.specs.Marks.{put_bit_at}
 use Rattle.marks.proofs.Laws.{stored-out}
 use Rattle.marks.proofs.take_out.Goals as goal

@@ -20,7 +20,6 @@ use Rattle.paper.specs.Blocks.{Block, State, block, free, held, remainder, total
 use Rattle.paper.specs.GivingBack.{give_back_large, left, settle}
 use Rattle.paper.specs.Granting.{E, R}
 use Rattle.paper.specs.Layout.{blocks_at, large}
-use Rattle.paper.specs.Runs.{under}
 use Rattle.paper.specs.Sound.{Low, Sized, WellFormed, free_at}
 use Rattle.words.specs.Choice.{by=}
 

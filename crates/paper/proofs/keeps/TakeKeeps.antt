@@ -11,7 +11,7 @@ use Rattle.paper.proofs.keeps.TakeSmallKeeps.{cut_high-keeps, take_first-keeps}
 use Rattle.paper.specs.Answers.{no_room}
 use Rattle.paper.specs.declared.Answer.TheVariants.{Refused}
 use Rattle.paper.specs.Blocks.{State, end}
-use Rattle.paper.specs.Granting.{Result, carry_out, cut_high, cut_low, granted, refused, take, take_first, take_part, take_whole}
+use Rattle.paper.specs.Granting.{Result, carry_out, cut_high, cut_low, granted, take, take_first, take_part, take_whole}
 use Rattle.paper.specs.Sound.{WellFormed}
 
 -- ---- the block that a payload needs

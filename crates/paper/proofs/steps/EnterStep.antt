@@ -8,7 +8,7 @@ use Rattle.paper.proofs.bins.BinLaws.{count-rebin-enter}
 use Rattle.paper.proofs.bins.Bins.{empty, nil-of}
 use Rattle.paper.proofs.steps.Enter.{enter-frame, enter-good, enter-puts, rebin-back}
 use Rattle.paper.proofs.steps.First.{OnLevel, Pred}
-use Rattle.paper.proofs.steps.Leave.{frame, reach-same}
+use Rattle.paper.proofs.steps.Leave.{reach-same}
 use Rattle.paper.proofs.steps.Leaving.{rebinned}
 use Rattle.paper.proofs.bins.Listed.{Loose, rebin-other, rebin-same, start}
 use Rattle.paper.proofs.reads.LooseReads.{above-none, above-some, no-zero-listed, reach-in}

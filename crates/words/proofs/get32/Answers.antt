@@ -1,5 +1,5 @@
 -- words::get32 meets its contract: in the list a word is its four digits.
-use Rattle.std.proofs.Common.{sym, arith, rules}
+use Rattle.std.proofs.Common.{sym, arith}
 use Rattle.words.proofs.Laws.{word_in, word_over}
 use Rattle.words.specs.Words.{digits_at}
 use Rattle.words.proofs.get32.Goals as goal

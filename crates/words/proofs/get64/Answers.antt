@@ -1,5 +1,5 @@
 -- words::get64 meets its contract: a word of 8 is two words of 4.
-use Rattle.std.proofs.Common.{sym, arith, rules}
+use Rattle.std.proofs.Common.{sym, arith}
 use Rattle.words.proofs.Laws.{word_over, word-add}
 use Rattle.words.proofs.get64.Goals as goal
 

@@ -1,5 +1,5 @@
 -- words::put32 meets its contract: in the list a word is its four digits.
-use Rattle.std.proofs.Common.{sym, arith, length-set, rules}
+use Rattle.std.proofs.Common.{sym, arith, length-set}
 use Rattle.words.proofs.Laws.{put_in, put-over}
 use Rattle.words.specs.Words.{put_digits}
 use Rattle.words.proofs.put32.Goals as goal

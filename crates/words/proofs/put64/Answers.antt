@@ -1,5 +1,5 @@
 -- words::put64 meets its contract: a word of 8 is two words of 4.
-use Rattle.std.proofs.Common.{sym, arith, rules}
+use Rattle.std.proofs.Common.{sym, arith}
 use Rattle.words.proofs.Laws.{put-over, put-halves}
 use Rattle.words.proofs.put64.Goals as goal
 

@@ -1,6 +1,5 @@
 -- heads::block_size meets its contract, by its text.
 use Rattle.heads.specs.Heads.{block_size}
-use borrow.Author.Rules.{rules}
 use mathlib.Core.Path.{refl}
 use Rattle.heads.proofs.head.block_size.Goals as goal
 

@@ -1,6 +1,5 @@
 -- heads::together meets its contract: shifts and ors put the head together.
 use Rattle.heads.proofs.HeadLaws.{made}
-use borrow.Author.Rules.{rules}
 use Rattle.heads.proofs.head.together.Goals as goal
 
 pub returns : goal.returns

@@ -1,6 +1,5 @@
 -- heads::with_p meets its contract: the parts of the old head, and another P.
 use Rattle.heads.specs.Heads.{with_p}
-use borrow.Author.Rules.{rules}
 use Rattle.heads.proofs.head.with_p.Goals as goal
 
 pub returns : goal.returns

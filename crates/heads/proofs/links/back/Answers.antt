@@ -3,7 +3,7 @@ use Rattle.heads.proofs.LinkLaws.{neg-fits, neg_word}
 use lib.IntN.{+ℤ_idl}
 use mathlib.Core.Path.{ap, ◌∙◌}
 use mir.Syntax.{w32}
-use mir.Val.{to_z, of_z}
+use mir.Val.{of_z}
 use mir.ValLaws.{to_z-of_z}
 use native.Mathlib.Omega.{arith}
 use Rattle.heads.proofs.links.back.Goals as goal

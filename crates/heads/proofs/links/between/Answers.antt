@@ -1,9 +1,8 @@
 -- heads::between meets its contract: a difference of 32 bits is the word of the distance.
 use Rattle.words.specs.Sums.{minus}
-use borrow.Author.Rules.{rules}
 use mathlib.Core.Path.{ap, ◌∙◌, ◌≡◌}
 use mir.Syntax.{w32}
-use mir.Val.{to_z, of_z}
+use mir.Val.{to_z}
 use mir.ValLaws.{to_z-of_z}
 use native.Mathlib.Omega.{arith}
 use Rattle.heads.proofs.links.between.Goals as goal

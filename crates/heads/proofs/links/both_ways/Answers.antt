@@ -1,7 +1,6 @@
 -- heads::both_ways meets its contract: the word back is the word of the negated distance.
-use Prim.Native.Nat.{ℕ, ◌-◌, ◌%◌}
+use Prim.Native.Nat.{ℕ}
 use Rattle.words.specs.Sums.{minus}
-use borrow.Author.Rules.{rules}
 use mathlib.Core.Path.{◌∙◌, ◌≡◌, ap}
 use mir.Syntax.{w32}
 use mir.Val.{to_z, of_z}

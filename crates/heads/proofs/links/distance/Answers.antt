@@ -1,5 +1,4 @@
 -- heads::distance meets its contract: the opposite of the opposite is the word.
-use borrow.Author.Rules.{rules}
 use lib.Arith.{sub-sub_self}
 use mathlib.Core.Path.{ap}
 use mir.Syntax.{w32}

@@ -2,10 +2,9 @@
 use Prim.Native.Nat.{ℕ, ◌+◌, ◌%◌}
 use Rattle.heads.specs.Links.{followed}
 use Rattle.words.specs.Choice.{if=-yes, if=-no}
-use borrow.Author.Rules.{rules}
 use mathlib.Core.Path.{◌∙◌, sym, ap}
 use mir.Syntax.{w32}
-use mir.Val.{to_z, of_z}
+use mir.Val.{of_z}
 use mir.ValLaws.{to_z-of_z, of_z-to_z}
 use native.Mathlib.Omega.{arith}
 use Rattle.heads.proofs.links.follow.Goals as goal

@@ -1,10 +1,9 @@
 -- heads::link_word meets its contract: the word of the distance, or 0.
 use Rattle.heads.specs.Links.{link_word}
 use Rattle.words.specs.Choice.{if=-yes, if=-no}
-use borrow.Author.Rules.{rules}
 use mathlib.Core.Path.{◌∙◌, sym, ap}
 use mir.Syntax.{w32}
-use mir.Val.{to_z, of_z}
+use mir.Val.{of_z}
 use mir.ValLaws.{to_z-of_z, of_z-to_z}
 use native.Mathlib.Omega.{arith}
 use Rattle.heads.proofs.links.link_word.Goals as goal

@@ -1,6 +1,5 @@
 -- heads::moved meets its contract: the sum of 32 bits.
 use Prim.Native.Nat.{ℕ, ◌+◌, ◌%◌}
-use borrow.Author.Rules.{rules}
 use mathlib.Core.Path.{◌∙◌, ap}
 use mir.Syntax.{w32}
 use mir.Val.{of_z}
