@@ -1,0 +1,8 @@
+-- bins::make_free meets its contract, by its text.
+use Rattle.bins.specs.Enter.{make_free}
+use borrow.Author.Rules.{rules}
+use Rattle.bins.proofs.entering.make_free.Goals as goal
+
+pub returns : goal.returns
+unfolding make_free
+returns c = rw (c.put32-2.ensures, c.put32.ensures, c.minus-foot.ensures, c.plus.ensures, c.free_head-head.ensures)

@@ -1,0 +1,16 @@
+-- walk::count_classes meets its contract, by its text.
+use Rattle.walk.specs.Classes.{class_counts}
+use borrow.Author.Rules.{rules}
+use Rattle.walk.proofs.class_counts.count_classes.Goals as goal
+
+pub returns : goal.returns
+unfolding class_counts
+returns c =
+    rw (
+      c.count_run.ensures,
+      c.pool_end.ensures,
+      c.count_run-low.ensures,
+      c.get32-end.ensures,
+      c.get32-start.ensures,
+      c.clear.ensures,
+    )
