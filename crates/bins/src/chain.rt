@@ -20,7 +20,7 @@ pub fn linked(pool: &[u8], q: u32, offset: u32) -> u32
 
 // What was found for a size on a level of the index: the last block there that is smaller, the next one, and the size of that. Where there is
 // no next one, the last two are 0. Other crates pass it on, and ask whether there is one and its size.
-#[derive(Drop)]
+#[derive(Clone, Copy)]
 pub struct Bin {
     pub(crate) level: u32,
     pub(crate) before: u32,

@@ -15,7 +15,7 @@ use remainder::remainder;
 // One case for each clause of the rule. Each carries what carrying it out needs, and last the size of the block, so nothing is looked
 // for twice: the first block of a small bin; the remainder, for its high end; a bin of exactly that size; a larger one, for the
 // low end of a block; the remainder, for its low end; the number of a refusal.
-#[derive(Drop)]
+#[derive(Clone, Copy)]
 pub enum Choice {
     FirstOfBin(u32, u32),
     HighEnd(Rest, u32),

@@ -2,7 +2,7 @@
 ghost use Rattle.std.specs.Prelude.{◌≡◌};
 ghost use Rattle.choosing.specs.Remainder.{remainder as remainder_of};
 
-#[derive(Drop)]
+#[derive(Clone, Copy)]
 pub struct Rest {
     pub start: u32,
     pub end: u32,

@@ -12,7 +12,7 @@ ghost use Rattle.homing.specs.Homing.{free_run, pruned, pruned_from, homed, home
 use paper::{END, FALSE_BLOCK, SMALL_BINS, SMALL_NEXT, START};
 
 // Free blocks end to end: where they end, and how many they are.
-#[derive(Drop)]
+#[derive(Clone, Copy)]
 pub struct Run {
     pub end: u32,
     pub blocks: u32,

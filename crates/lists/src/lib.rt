@@ -14,7 +14,7 @@ use header::link_ok;
 use levels::HIGHER;
 use paper::{CHAIN, FALSE_BLOCK, LARGE, NEXT, PREVIOUS, SMALL_BINS, SMALL_NEXT};
 
-#[derive(Drop)]
+#[derive(Clone, Copy)]
 pub struct Left {
     pub ok: bool,
     pub left: usize,

@@ -10,7 +10,7 @@ ghost use Rattle.runs.specs.Contract.{Scans, ScansBoth};
 use heads::{FREE, HELD, HELD_ABOVE_FREE};
 use paper::{BLOCKS, LARGE};
 
-#[derive(Drop)]
+#[derive(Clone, Copy)]
 pub struct Seen {
     pub ok: bool,
     pub count: usize,

@@ -1,0 +1,23 @@
+-- moving::stand meets its contract: the invariant says that all levels are the levels from here.
+use Prim.Native.Nat.{◌-◌, suc}
+use borrow.Author.Rules.{rules}
+use mathlib.Core.Path.{◌∙◌}
+use native.Mathlib.Omega.{arith}
+use Rattle.moving.proofs.Levels.{Climbing, climbing, climbs, climbed, too-high}
+use Rattle.moving.specs.Move.{moving}
+use Rattle.moving.proofs.stand.Goals as goal
+
+pub returns-then-h-gt-LEVELS : goal.returns-then-h-gt-LEVELS
+returns-then-h-gt-LEVELS c = too-high _ _ _ c.if-h-gt-LEVELS.true
+
+pub loop-level-init : goal.loop-level-init
+loop-level-init c = climbing _ _ _
+
+pub loop-level-preserved : goal.loop-level-preserved
+loop-level-preserved c = climbs c.loop-level.invariant (omega (arith, c.loop-level-test.true)) c.word.ensures c.link_word.ensures c.put_field-in-loop-level.ensures
+
+pub shape_of-pool : goal.shape_of-pool
+shape_of-pool c = c.loop-level.invariant.long ∙ c.put_field.auto.s
+
+pub returns : goal.returns
+returns c = climbed c.loop-level.invariant c.loop-level-test.false c.if-h-gt-LEVELS.false _ c.put_field.ensures
