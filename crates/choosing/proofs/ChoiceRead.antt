@@ -13,7 +13,7 @@ use Rattle.bins.proofs.Led.{Led, empty-none, exact-led, found-empty, found_none,
 use Rattle.bins.specs.Find.{empty, exact, find_on, none, size}
 use Rattle.bins.specs.declared.chain.Bin.{Bin}
 use Rattle.choosing.proofs.RestRead.{rest_read, rest_is}
-use Rattle.choosing.specs.Choosing.{choose_larger, high_end_choice, low_end, choose as choose-model, choose_large as choose_large-model, choose_small as choose_small-model}
+use Rattle.choosing.specs.Choosing.{choose_larger, high_end_choice, low_end_choice, choose as choose-model, choose_large as choose_large-model, choose_small as choose_small-model}
 use Rattle.choosing.specs.declared.Choice.{Choice}
 use Rattle.choosing.specs.declared.Choice.TheVariants.{ExactBin, FirstOfBin, HighEnd, LargerBin, LowEnd, Refusal}
 use Rattle.choosing.specs.declared.remainder.Rest.{Rest}
@@ -29,7 +29,7 @@ use Rattle.paper.specs.Answers.{no_room, no_size}
 use Rattle.paper.specs.Bins.{first}
 use Rattle.paper.specs.Blocks.{State}
 use Rattle.paper.specs.Governed.{height}
-use Rattle.paper.specs.Granting.{choose, choose_large, choose_small, exact_bin, first_of_bin, high_end, if_room, larger_bin, low-end, refusal, smallest_bin, Choice as PaperChoice}
+use Rattle.paper.specs.Granting.{choose, choose_large, choose_small, exact_bin, first_of_bin, high_end, if_room, larger_bin, low_end, refusal, smallest_bin, Choice as PaperChoice}
 use Rattle.paper.specs.Layout.{large, small_bins}
 use Rattle.words.specs.Choice.{by<, by=, if<, if<-no, if<-yes, if=, if=-no, if=-yes, when, when-no, when-yes}
 use Rattle.words.specs.Sums.{plus}
@@ -41,7 +41,7 @@ said (FirstOfBin q b) = first_of_bin b
 said (HighEnd rest b) = high_end b
 said (ExactBin bin b) = exact_bin b
 said (LargerBin bin b) = larger_bin (size bin) b
-said (LowEnd rest b) = low-end b
+said (LowEnd rest b) = low_end b
 said (Refusal k) = refusal k
 
 -- what it carries, in the state that it was chosen for
@@ -102,15 +102,15 @@ module _ (s : State) (bs : List ℕ) (S : Stands s bs) (b : ℕ) (eights : b % 8
     B : Between s bs
     B = stands-between s bs S
 
-    low_reads : Reads s (low_end bs b) (if_room s b (low-end b))
-    unfolding low_end
+    low_reads : Reads s (low_end_choice bs b) (if_room s b (low_end b))
+    unfolding low_end_choice
     low_reads =
-        end_reads (λ r. LowEnd r b) (low-end b) (λ l. record { says = refl; carries = (eights, b-large, refl, l) }) _ (rest_read s bs S)
+        end_reads (λ r. LowEnd r b) (low_end b) (λ l. record { says = refl; carries = (eights, b-large, refl, l) }) _ (rest_read s bs S)
 
     abbrev larger-way : PaperChoice
-    larger-way = if= (smallest_bin s (b + large)) 0 (if_room s b (low-end b)) (larger_bin (smallest_bin s (b + large)) b)
+    larger-way = if= (smallest_bin s (b + large)) 0 (if_room s b (low_end b)) (larger_bin (smallest_bin s (b + large)) b)
 
-    larger-at : (bin : Bin) → Found s 1 (b + large) 0 bin → Reads s (when (none bin) (low_end bs b) (LargerBin bin b)) larger-way
+    larger-at : (bin : Bin) → Found s 1 (b + large) 0 bin → Reads s (when (none bin) (low_end_choice bs b) (LargerBin bin b)) larger-way
     larger-at bin F =
         let z : size bin ≡ smallest_bin s (b + large) = found-size s B.loose 1 (b + large) (omega arith) bin F refl in
         by_flag (none bin)
@@ -128,7 +128,7 @@ module _ (s : State) (bs : List ℕ) (S : Stands s bs) (b : ℕ) (eights : b % 8
     unfolding choose_larger
     larger-reads at F =
         let p : plus b large ≡ b + large = omega arith in
-        subst (λ (k : ℕ). Reads s (when (none (find_on bs at k)) (low_end bs b) (LargerBin (find_on bs at k) b)) larger-way) (sym p)
+        subst (λ (k : ℕ). Reads s (when (none (find_on bs at k)) (low_end_choice bs b) (LargerBin (find_on bs at k) b)) larger-way) (sym p)
         (larger-at (find_on bs at (b + large))
         (find-on-found s B.loose bs (between-index s bs B) (height s.top b) b (b + large) at (height-pos s B.loose b) (height-le s.top b) F (omega arith)))
 
@@ -143,7 +143,7 @@ module _ (s : State) (bs : List ℕ) (S : Stands s bs) (b : ℕ) (eights : b % 8
         (if=-yes (first (s.bins b)) 0 _ _ (found-empty s B.loose (height s.top b) b b-large at F (omega arith) d)) (larger-reads at F))
 
     -- there is no bin at all
-    empty-reads : empty bs ≡ true → Reads s (low_end bs b) (choose_large s b)
+    empty-reads : empty bs ≡ true → Reads s (low_end_choice bs b) (choose_large s b)
     unfolding choose_large
     empty-reads t =
         let all : (z : ℕ) → large ≤ z → first (s.bins z) ≡ 0 = empty-none s B.loose bs (between-index s bs B) t in

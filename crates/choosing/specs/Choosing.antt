@@ -18,8 +18,8 @@ high_end_choice bs b =
     let rest = remainder bs in
     if< rest.size (b + 8) (Refusal no_room) (HighEnd rest b)
 
-unfoldable pub low_end : List ℕ → ℕ → Choice
-low_end bs b =
+unfoldable pub low_end_choice : List ℕ → ℕ → Choice
+low_end_choice bs b =
     let rest = remainder bs in
     if< rest.size (b + 8) (Refusal no_room) (LowEnd rest b)
 
@@ -32,12 +32,12 @@ choose_small bs b =
 unfoldable pub choose_larger : List ℕ → Bin → ℕ → Choice
 choose_larger bs at b =
     let larger = find_on bs at (plus b large) in
-    when (none larger) (low_end bs b) (LargerBin larger b)
+    when (none larger) (low_end_choice bs b) (LargerBin larger b)
 
 unfoldable pub choose_large : List ℕ → ℕ → Choice
 choose_large bs b =
     let at = exact bs b in
-    when (empty bs) (low_end bs b) (if= (size at) b (ExactBin at b) (choose_larger bs at b))
+    when (empty bs) (low_end_choice bs b) (if= (size at) b (ExactBin at b) (choose_larger bs at b))
 
 unfoldable pub choose : List ℕ → ℕ → Choice
 choose bs s =

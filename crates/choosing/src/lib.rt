@@ -5,7 +5,7 @@
 mod remainder;
 
 ghost use Rattle.std.specs.Prelude.{◌≡◌};
-ghost use Rattle.choosing.specs.Choosing.{high_end_choice, low_end, choose_small, choose_larger, choose_large, choose as choose-of};
+ghost use Rattle.choosing.specs.Choosing.{high_end_choice, low_end_choice, choose_small, choose_larger, choose_large, choose as choose-of};
 
 use bins::Bin;
 use paper::SMALL_BINS;
@@ -38,7 +38,7 @@ fn high_end(pool: &[u8], b: u32) -> Choice
 
 // The remainder's low end, if 8 bytes are left.
 fn low_end(pool: &[u8], b: u32) -> Choice
-    ensures { result ≡ low_end pool.now b }
+    ensures { result ≡ low_end_choice pool.now b }
 {
     let rest = remainder(pool);
     if (rest.size as u64) < b as u64 + 8 {

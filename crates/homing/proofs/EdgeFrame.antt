@@ -10,7 +10,7 @@ use Rattle.paper.proofs.runs.Walk.{flag_past, total-append}
 use Rattle.paper.proofs.steps.Leave.{NothingNew}
 use Rattle.paper.proofs.steps.Segment.{after_same, seg-frame}
 use Rattle.paper.specs.Blocks.{Block, State, block, blocks, end, free_sum, remainder, total}
-use Rattle.paper.specs.Governed.{header_word, sheet, walk}
+use Rattle.paper.specs.Governed.{block_word, header_word, sheet, walk}
 use Rattle.paper.specs.Granting.{R}
 use Rattle.paper.specs.Layout.{blocks_at, end_at, free_word_at}
 use Rattle.paper.specs.Sound.{High}
@@ -48,7 +48,7 @@ module _ (s : State) (gone above : List Block) (is : s.high ≡ gone ++ above) (
       seg-frame s grown s.low (block s.rest remainder ∷ gone) (block rest remainder ∷ []) above a refl refl old-blocks refl same_end
       (omega arith)
       (λ l e. header-kept (a / 8) (λ k. f (omega arith)) (omega arith))
-      (λ n l. after_same _ above _ (flag_past 1 gone) 1 a (sym (high-flag gone (high_parts gone above (subst High is small)).0)))
+      (λ n l. after_same (block_word s.top n s.bins) above (blocks_at + total s.low + total (block s.rest remainder ∷ gone)) (flag_past 1 gone) 1 a (sym (high-flag gone (high_parts gone above (subst High is small)).0)))
       (λ n l m. let i : a < blocks_at + total s.low + rest = omega arith in
       let o : a - (blocks_at + total s.low) ≢ 0 = omega arith in
       inl (simp ifs))

@@ -1,0 +1,13 @@
+-- choosing::low_end meets its contract, by the test on the remainder.
+use Rattle.choosing.specs.Choosing.{low_end_choice}
+use Rattle.words.specs.Choice.{if<-yes, if<-no}
+use borrow.Author.Rules.{rules}
+use Rattle.choosing.proofs.low_end.Goals as goal
+
+pub returns-then-rest-b : goal.returns-then-rest-b
+unfolding low_end_choice
+returns-then-rest-b c = rw (← c.remainder-rest.ensures, if<-yes _ _ _ _ c.if-rest-b.true)
+
+pub returns : goal.returns
+unfolding low_end_choice
+returns c = rw (← c.remainder-rest.ensures, if<-no _ _ _ _ c.if-rest-b.false)

@@ -1,0 +1,8 @@
+-- choosing::remainder meets its contract, by its text.
+use Rattle.choosing.specs.Remainder.{remainder}
+use borrow.Author.Rules.{rules}
+use Rattle.choosing.proofs.remainder.remainder.Goals as goal
+
+pub returns : goal.returns
+unfolding remainder
+returns c = rw (c.minus.ensures, c.get32-end.ensures, c.get32-start.ensures)

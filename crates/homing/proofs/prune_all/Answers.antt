@@ -1,0 +1,18 @@
+-- homing::prune_all meets its contract: the invariant says that all eight lists are those from here.
+use Prim.Native.Nat.{◌-◌}
+use borrow.Author.Rules.{rules}
+use Rattle.homing.proofs.Bins.{Bins, begins, done, goes_on}
+use Rattle.paper.specs.Layout.{false_block}
+use Rattle.homing.proofs.prune_all.Goals as goal
+
+pub loop-first-init : goal.loop-first-init
+loop-first-init c = begins _ _
+
+pub loop-first-preserved : goal.loop-first-preserved
+loop-first-preserved c = goes_on c.loop-first.invariant c.loop-first-test.true c.prune.auto.pool c.prune.ensures
+
+pub shape_of-pool : goal.shape_of-pool
+shape_of-pool c = c.loop-first.invariant.long
+
+pub returns : goal.returns
+returns c = done c.loop-first.invariant c.loop-first-test.false
