@@ -12,7 +12,7 @@ use Rattle.paper.proofs.steps.Segment.{after_same, seg-frame}
 use Rattle.paper.proofs.sheet.Stores.{Elsewhere, Good, finish, puts}
 use Rattle.paper.proofs.runs.Walk.{In, flag_past, free_sum-append, in-mid, total-append}
 use Rattle.paper.specs.Blocks.{State, block, blocks, end, free_sum, held, remainder, total}
-use Rattle.paper.specs.Governed.{head_word, header_word, sheet, walk}
+use Rattle.paper.specs.Governed.{block_word, head_word, header_word, sheet, walk}
 use Rattle.paper.specs.Granting.{R}
 use Rattle.paper.specs.Sheet.{Holds, write}
 use Rattle.words.specs.Choice.{by<, by=, if<, if=, ifs}
@@ -57,7 +57,7 @@ module _ (s : State) (b : ℕ) (least : 8 ≤ b) (room : b + 8 ≤ s.rest) where
       seg-frame s low-cut s.low (block s.rest remainder ∷ []) (block b held ∷ block (s.rest - b) remainder ∷ []) s.high a
       refl refl refl new-blocks end_same (omega arith)
       (λ l z. header-same (a / 8) (omega arith) (omega arith))
-      (λ n l. after_same _ s.high _ 1 1 a refl)
+      (λ n l. after_same (block_word s.top n s.bins) s.high (168 + total s.low + total (block s.rest remainder ∷ [])) 1 1 a refl)
       (λ n l m. inl (by< a (R s + b)
       (λ i. let o : a - R s ≢ 0 = omega arith in simp ifs)
       (λ i. let o : a - (R s + b) ≢ 0 = omega arith in let j : a < R s + b + (s.rest - b) = omega arith in simp ifs)))

@@ -23,7 +23,7 @@ use Rattle.paper.proofs.sheet.Stores.{Elsewhere, Good, finish, puts}
 use Rattle.paper.proofs.runs.Walk.{In, flag_past, free_sum-append, in-mid, total-append}
 use Rattle.paper.specs.Bins.{count, first, leave, rebin}
 use Rattle.paper.specs.Blocks.{Block, State, block, blocks, end, free, free_sum, held, remainder, total}
-use Rattle.paper.specs.Governed.{head_word, header_word, sheet, walk}
+use Rattle.paper.specs.Governed.{block_word, head_word, header_word, sheet, walk}
 use Rattle.paper.specs.Granting.{E, granted, take_first}
 use Rattle.paper.specs.Runs.{from, replace, under}
 use Rattle.paper.specs.Sheet.{Holds, write}
@@ -119,7 +119,7 @@ module _ (s : State) (W : WellFormed s) (b : ℕ) (small : b ≤ 64) (least : 8 
   block-frame a al n0 nq =
       seg-frame (rebinned s b l) after-pop xs (block b free ∷ []) (block b held ∷ []) vs a refl refl old-blocks new-blocks end_same refl
       (λ m z. header-same (a / 8) (omega arith))
-      (λ n m. after_same _ vs _ _ _ a (sym (if<-yes b 72 1 0 (omega arith))))
+      (λ n m. after_same (block_word (rebinned s b l).top n (rebinned s b l).bins) vs (168 + total xs + total (block b free ∷ [])) _ _ a (sym (if<-yes b 72 1 0 (omega arith))))
       (λ n m k. inl (let o : a - (168 + total xs) ≢ 0 = omega (arith, xs-ends) in
       let k' : a < 168 + total xs + b = omega arith in simp ifs))
 

@@ -16,7 +16,6 @@ shape_of-pool c =
 
 pub returns : goal.returns
 unfolding homes
-unfolding homes
 returns c =
     (
       home-is _ _ _ c.free_run-run.ensures

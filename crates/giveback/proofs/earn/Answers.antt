@@ -1,0 +1,8 @@
+-- giveback::earn meets its contract, by its text.
+use Rattle.giveback.specs.GiveBack.{earned}
+use borrow.Author.Rules.{rules}
+use Rattle.giveback.proofs.earn.Goals as goal
+
+pub returns : goal.returns
+unfolding earned
+returns c = rw (c.put32.ensures, c.plus.ensures, c.get32-free.ensures)

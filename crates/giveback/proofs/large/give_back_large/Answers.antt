@@ -1,0 +1,22 @@
+-- giveback::give_back_large meets its contract, by the test on the remainder.
+use Rattle.giveback.specs.Large.{give_back_large}
+use Rattle.words.specs.Choice.{if=-yes, if=-no}
+use mathlib.Core.Path.{sym, ◌∙◌}
+use borrow.Author.Rules.{rules}
+use Rattle.giveback.proofs.large.give_back_large.Goals as goal
+
+pub returns-then-top-get32 : goal.returns-then-top-get32
+unfolding give_back_large
+returns-then-top-get32 c =
+    rw (
+      ← c.plus-top.ensures,
+      if=-yes _ _ _ _ (c.if-top-get32.true ∙ c.get32.ensures),
+    ) (cc)
+
+pub returns : goal.returns
+unfolding give_back_large
+returns c =
+    rw (
+      ← c.plus-top.ensures,
+      if=-no _ _ _ _ (λ e. c.if-top-get32.false (e ∙ sym c.get32.ensures)),
+    ) (cc)

@@ -1,0 +1,16 @@
+-- giveback::join_rest meets its contract, by its text.
+use Rattle.giveback.specs.Large.{join_rest}
+use borrow.Author.Rules.{rules}
+use Rattle.giveback.proofs.large.join_rest.Goals as goal
+
+pub returns : goal.returns
+unfolding join_rest
+returns c =
+    rw (
+      c.put32-2.ensures,
+      c.free_head.ensures,
+      c.minus.ensures,
+      c.put32.ensures,
+      c.get32-end.ensures,
+      c.leave_below.ensures,
+    )

@@ -1,0 +1,8 @@
+-- grant::granted meets its contract, by its text.
+use Rattle.grant.specs.Granted.{granted, spent}
+use borrow.Author.Rules.{rules}
+use Rattle.grant.proofs.granted.granted.Goals as goal
+
+pub returns : goal.returns
+unfolding granted spent
+returns c = rw (c.plus.ensures, c.put32.ensures, c.minus.ensures, c.get32-free.ensures)

@@ -1,0 +1,8 @@
+-- grant::split meets its contract, by its text.
+use Rattle.grant.specs.Large.{split}
+use borrow.Author.Rules.{rules}
+use Rattle.grant.proofs.large.split.Goals as goal
+
+pub returns : goal.returns
+unfolding split
+returns c = rw (c.enter.ensures, c.put32.ensures, c.held_head.ensures, c.minus-size.ensures, c.plus-rest.ensures)

@@ -1,0 +1,8 @@
+-- grant::take meets its contract, by its text.
+use Rattle.grant.specs.Take.{take}
+use borrow.Author.Rules.{rules}
+use Rattle.grant.proofs.take.Goals as goal
+
+pub returns : goal.returns
+unfolding take
+returns c = rw (← c.carry_out.ensures, c.choose-choice.ensures)
