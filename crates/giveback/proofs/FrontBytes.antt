@@ -32,7 +32,7 @@ use Rattle.paper.proofs.runs.Walk.{In, flag_past, free_sum-append, free_sum-le, 
 use Rattle.paper.specs.Bins.{first, next_in, rebin}
 use Rattle.paper.specs.Blocks.{Block, State, block, blocks, end, free, free_sum, held, remainder, total}
 use Rattle.paper.specs.GivingBack.{give_back_small as give_back_small-state}
-use Rattle.paper.specs.Governed.{head_word, header_word, sheet, small_word, walk}
+use Rattle.paper.specs.Governed.{block_word, head_word, header_word, sheet, small_word, walk}
 use Rattle.paper.specs.Sheet.{write}
 use Rattle.paper.specs.Sound.{High, Sized}
 use Rattle.words.specs.Choice.{if<, if<-yes, if=, if=-no, if=-yes, ifs}
@@ -107,7 +107,7 @@ module _ (s : State) (bs : List ℕ) (S : Stands s bs) (q z : ℕ) (H : HeldHigh
   kind-frame a al out =
       seg-frame s loosed xs (block z held ∷ []) (block z free ∷ []) H.after a refl refl old-blocks new-blocks same_end refl
       (λ l e. header-same (a / 8) (omega (arith, out.1.1.1.0)))
-      (λ n l. after_same _ H.after _ 1 (if< z 72 1 0) a (if<-yes z 72 1 0 (omega (arith, H.sized))))
+      (λ n l. after_same (block_word s.top n s.bins) H.after (168 + total xs + total (block z held ∷ [])) 1 (if< z 72 1 0) a (if<-yes z 72 1 0 (omega (arith, H.sized))))
       (λ n l m. let o0 : a - (168 + total xs) ≢ 0 = omega (arith, out.0, starts-at) in
       let o4 : a - (168 + total xs) ≢ 4 = omega (arith, out.1.0, starts-at) in
       let i : a < 168 + total xs + z = omega arith in

@@ -14,7 +14,7 @@ use Rattle.paper.proofs.keeps.Settled.{into_remainder}
 use Rattle.paper.proofs.sheet.Stores.{Elsewhere, Good}
 use Rattle.paper.proofs.runs.Walk.{In, flag_past, free_sum-append, in-mid, total-append}
 use Rattle.paper.specs.Blocks.{Block, State, block, blocks, end, free_sum, remainder, total}
-use Rattle.paper.specs.Governed.{head_word, header_word, sheet, walk}
+use Rattle.paper.specs.Governed.{block_word, head_word, header_word, sheet, walk}
 use Rattle.words.specs.Choice.{if<, if=, ifs}
 
 module _ (s : State) (b : ℕ → List ℕ) (us ms : List Block) (is : s.low ≡ us ++ ms) (flag : flag_past 1 us ≡ 1) where
@@ -62,7 +62,7 @@ module _ (s : State) (b : ℕ → List ℕ) (us ms : List Block) (is : s.low ≡
       seg-frame O N us (ms ++ block s.rest remainder ∷ []) (block (m + s.rest) remainder ∷ []) s.high k refl refl old-blocks refl rest_end
       same_total
       (λ l z. header-same (k / 8) (omega (arith, out.1.1.0)) (omega (arith, out.0)))
-      (λ n l. after_same _ s.high _ (flag_past (flag_past 1 us) (ms ++ block s.rest remainder ∷ [])) 1 k
+      (λ n l. after_same (block_word (with-bins s b).top n (with-bins s b).bins) s.high (168 + total us + total (ms ++ block s.rest remainder ∷ [])) (flag_past (flag_past 1 us) (ms ++ block s.rest remainder ∷ [])) 1 k
       (sym (flag-append (flag_past 1 us) ms (block s.rest remainder ∷ []))))
       (λ n l i. let o : k - a ≢ 0 = omega (arith, out.1.0) in let j : k < a + (m + s.rest) = omega (arith, same_total) in inl (simp ifs))
 

@@ -7,8 +7,7 @@ use lib.Dec.{eqb}
 use borrow.Author.Tests.{eq-eqb, ne_eqb}
 use Rattle.words.specs.Choice.{if<-yes, if<-no, if=-yes, if=-no, by=}
 use Rattle.paper.specs.Allowed.{allowed}
-use Rattle.inspect.proofs.allowed.Statement.{statement}
-use Rattle.inspect.proofs.allowed.Tie as tie
+use Rattle.inspect.proofs.allowed.Goals as goal
 
 short : (n : ℕ) → n < 176 → false ≡ allowed n
 unfolding allowed
@@ -24,8 +23,11 @@ within n h k =
     by= (n % 8) 0 (λ e. eq-eqb (n % 8) 0 e ∙ sym (if<-no n 176 _ _ h ∙ if<-no 65536 n _ _ k ∙ if=-yes (n % 8) 0 _ _ e))
     (λ e. ne_eqb (n % 8) 0 e ∙ sym (if<-no n 176 _ _ h ∙ if<-no 65536 n _ _ k ∙ if=-no (n % 8) 0 _ _ e))
 
-pub allowed-spec : {M : Type 1} → statement M
-allowed-spec =
-    tie.close
-    (tie.spec (λ c. short _ (omega (arith, c.if1.true))) (λ c. long _ (omega (arith, c.before.if1.false, c.if2.true)) c.if2.true)
-    (λ c. within _ (omega (arith, c.before.if1.false)) c.if2.false))
+pub returns-then-n-lt176 : goal.returns-then-n-lt176
+returns-then-n-lt176 c = short _ (omega (arith, c.if-n-lt176.true))
+
+pub returns-then-n-gt65536 : goal.returns-then-n-gt65536
+returns-then-n-gt65536 c = long _ (omega (arith, c.if-n-lt176.false, c.if-n-gt65536.true)) c.if-n-gt65536.true
+
+pub returns : goal.returns
+returns c = within _ (omega (arith, c.if-n-lt176.false)) c.if-n-gt65536.false

@@ -14,8 +14,7 @@ use Rattle.paper.specs.declared.Found.TheVariants.{Held, Free, Remainder, Nothin
 use Rattle.paper.specs.Answers.{not_held}
 use Rattle.serving.specs.Models as model
 use Rattle.words.specs.Choice.{if=-yes, if=-no}
-use Rattle.serving.proofs.held_there.Statement.{statement}
-use Rattle.serving.proofs.held_there.Tie as tie
+use Rattle.serving.proofs.held_there.Goals as goal
 
 -- any other block than a held one, or none
 other : (x : Found) (offset : ℕ) → OneOf (1 ∷ 2 ∷ 3 ∷ []) (tag_of the_type x) → Refused not_held ≡ model.held_there x offset
@@ -27,24 +26,20 @@ other (Free q z) offset k = refl
 other (Remainder q z) offset k = refl
 other Nothing offset k = refl
 
-returns : tie.Need-returns
-returns c = other _ _ c.match.keys2
+pub returns-in_default : goal.returns-in_default
+returns-in_default c = other _ _ c.in_default.keys2
 
 -- a held block: by where it starts
-returns-2 : tie.Need-returns-2
+pub returns-then-offset-start : goal.returns-then-offset-start
 unfolding model.held_there
-returns-2 c =
-    let h = c.before.before.found.given in
-    let n : c.before.before.before.before.args.offset ≢ h.0.0 + 4 = omega (arith, c.if1.true) in
+returns-then-offset-start c =
+    let h = c.found-1.given in
+    let n : c.args.offset ≢ h.0.0 + 4 = omega (arith, c.if-offset-start.true) in
     rw (h.1, if=-no _ _ _ _ n)
 
-returns-3 : tie.Need-returns-3
+pub returns : goal.returns
 unfolding model.held_there
-returns-3 c =
-    let h = c.before.before.found.given in
-    let e : c.before.before.before.before.args.offset ≡ h.0.0 + 4 = omega (arith, c.if1.false) in
+returns c =
+    let h = c.found-1.given in
+    let e : c.args.offset ≡ h.0.0 + 4 = omega (arith, c.if-offset-start.false) in
     rw (h.1, if=-yes _ _ _ _ e)
-
-pub held-there-spec : {M : Type 1} → statement M
-held-there-spec =
-    tie.close (tie.spec (λ c. search rules) returns (λ c. search rules) (λ c. search rules) returns-2 returns-3)
