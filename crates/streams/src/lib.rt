@@ -1,5 +1,5 @@
-// What a program reads and writes, and what it says where that fails. A failure is no exit status: it is said on standard error,
-// and nothing else is ever written there.
+// What a program reads and writes, and what it says where that fails. Its exit status tells nothing: a failure is said on standard
+// error, and nothing else is ever written there.
 #![tactic(auto)]
 
 ghost use Rattle.std.specs.Prelude.{◌<◌, length, take};
