@@ -1,4 +1,5 @@
-// What is read from standard input. A reading that failed has been said, and is here as an input that ended.
+// What is read from standard input, `from`. A reading that failed has been said, and is here as an input that ended.
+use std::io::Read;
 
 // The next command's letter, if the input has not ended.
 #[derive(Drop)]
@@ -7,9 +8,9 @@ pub enum Letter {
     End,
 }
 
-pub fn next_letter() -> Letter {
+pub fn next_letter(rt: &impl Eprint, from: &mut impl Read) -> Letter {
     let mut one = [0u8; 1];
-    let got = streams::read(&mut one);
+    let got = streams::read(rt, from, &mut one);
     if got == 0 {
         return Letter::End;
     }
@@ -23,9 +24,9 @@ pub enum Number {
     Short,
 }
 
-pub fn next_number() -> Number {
+pub fn next_number(rt: &impl Eprint, from: &mut impl Read) -> Number {
     let mut four = [0u8; 4];
-    let got = streams::read(&mut four);
+    let got = streams::read(rt, from, &mut four);
     if got != 4 {
         return Number::Short;
     }
@@ -33,10 +34,10 @@ pub fn next_number() -> Number {
 }
 
 // Whether `to` was filled.
-pub fn fill(to: &mut [u8]) -> bool {
+pub fn fill(rt: &impl Eprint, from: &mut impl Read, to: &mut [u8]) -> bool {
     let n = to.len();
     if n == 0 {
         return true;
     }
-    streams::read(to) == n
+    streams::read(rt, from, to) == n
 }

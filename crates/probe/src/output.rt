@@ -1,71 +1,71 @@
 // What is written to standard output. Each function answers whether all of it was written; where it was not, that has been said.
 ghost use Rattle.std.specs.Prelude.{◌<◌};
 
+use itoa::Buffer;
 use paper::{Answer, Figures, Tally};
 
-fn text(s: &[u8]) -> bool {
-    streams::write(s)
+fn text(rt: &(impl Print + Eprint), s: &[u8]) -> bool {
+    streams::write(rt, s)
 }
 
 // A space and a number.
-pub fn spaced(v: u32) -> bool {
-    if !text(b" ") {
+pub fn spaced(rt: &(impl Print + Eprint), v: u32) -> bool {
+    if !text(rt, b" ") {
         return false;
     }
-    let mut digits = [0u8; 20];
-    let k = io::decimal(v as u64, &mut digits);
-    text(&digits[..k])
+    let mut digits = Buffer::new();
+    text(rt, digits.format(v).as_bytes())
 }
 
-pub fn unreadable() -> bool {
-    text(b"X 7 0\n")
+pub fn unreadable(rt: &(impl Print + Eprint)) -> bool {
+    text(rt, b"X 7 0\n")
 }
 
-pub fn end_of_line() -> bool {
-    text(b"\n")
+pub fn end_of_line(rt: &(impl Print + Eprint)) -> bool {
+    text(rt, b"\n")
 }
 
-fn numbers(first: u32, second: u32) -> bool {
-    spaced(first) && spaced(second)
+fn numbers(rt: &(impl Print + Eprint), first: u32, second: u32) -> bool {
+    spaced(rt, first) && spaced(rt, second)
 }
 
-fn answer(a: Answer) -> bool {
+fn answer(rt: &(impl Print + Eprint), a: Answer) -> bool {
     match a {
-        Answer::Done(v) => numbers(0, v),
-        Answer::Refused(k) => numbers(k as u32, 0),
+        Answer::Done(v) => numbers(rt, 0, v),
+        Answer::Refused(k) => numbers(rt, k as u32, 0),
     }
 }
 
 // The letter that a line begins with, and an answer's number and value.
-pub fn begin(letter: u8, a: Answer) -> bool {
-    text(&[letter]) && answer(a)
+pub fn begin(rt: &(impl Print + Eprint), letter: u8, a: Answer) -> bool {
+    text(rt, &[letter]) && answer(rt, a)
 }
 
 // The letter that a line begins with, and a number alone.
-pub fn number(letter: u8, v: u32) -> bool {
-    text(&[letter]) && spaced(v)
+pub fn number(rt: &(impl Print + Eprint), letter: u8, v: u32) -> bool {
+    text(rt, &[letter]) && spaced(rt, v)
 }
 
 // A whole line of a call.
-pub fn line(letter: u8, a: Answer) -> bool {
-    begin(letter, a) && end_of_line()
+pub fn line(rt: &(impl Print + Eprint), letter: u8, a: Answer) -> bool {
+    begin(rt, letter, a) && end_of_line(rt)
 }
 
-fn figures(f: Figures) -> bool {
-    numbers(f.held_blocks, f.held_bytes)
-        && numbers(f.free_small, f.free_large)
-        && numbers(f.remainder, f.free_word)
-        && spaced(f.largest)
+fn figures(rt: &(impl Print + Eprint), f: Figures) -> bool {
+    numbers(rt, f.held_blocks, f.held_bytes)
+        && numbers(rt, f.free_small, f.free_large)
+        && numbers(rt, f.remainder, f.free_word)
+        && spaced(rt, f.largest)
 }
 
-pub fn tally(t: Tally) -> bool {
-    text(b"S") && counted(t) && end_of_line()
+pub fn tally(rt: &(impl Print + Eprint), t: Tally) -> bool {
+    text(rt, b"S") && counted(rt, t) && end_of_line(rt)
 }
 
-fn counted(t: Tally) -> bool {
+fn counted(rt: &(impl Print + Eprint), t: Tally) -> bool {
     match t {
-        Tally::Counted(f) => spaced(0) && figures(f),
-        Tally::Refused(k) => numbers(k as u32, 0),
+        Tally::Counted(f) => spaced(rt, 0) && figures(rt, f),
+        Tally::Refused(k) => numbers(rt, k as u32, 0),
     }
 }
 
@@ -86,7 +86,7 @@ struct Place {
     at: usize,
 }
 
-fn room(digits: &[u8; 4098], used: usize) -> Place
+fn room(rt: &(impl Print + Eprint), digits: &[u8; 4098], used: usize) -> Place
     ensures { result.at < 4096 }
 {
     if used < 4096 {
@@ -96,7 +96,7 @@ fn room(digits: &[u8; 4098], used: usize) -> Place
         };
     }
     Place {
-        written: text(digits_of(digits, used)),
+        written: text(rt, digits_of(digits, used)),
         at: 0,
     }
 }
@@ -110,18 +110,18 @@ fn digits_of(digits: &[u8], used: usize) -> &[u8] {
 }
 
 // Some bytes in lower-case hex, by way of a buffer; `-` where there are none.
-pub fn hex(s: &[u8]) -> bool {
+pub fn hex(rt: &(impl Print + Eprint), s: &[u8]) -> bool {
     if s.len() == 0 {
-        return text(b" -");
+        return text(rt, b" -");
     }
-    if !text(b" ") {
+    if !text(rt, b" ") {
         return false;
     }
     let mut digits = [0u8; 4098];
     let mut used: usize = 0;
     let mut i = 0;
     while i < s.len() {
-        let place = room(&digits, used);
+        let place = room(rt, &digits, used);
         if !place.written {
             return false;
         }
@@ -131,5 +131,5 @@ pub fn hex(s: &[u8]) -> bool {
         used = at + 2;
         i += 1;
     }
-    text(digits_of(&digits, used))
+    text(rt, digits_of(&digits, used))
 }

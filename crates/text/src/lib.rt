@@ -6,6 +6,8 @@ ghost use Rattle.std.specs.Prelude.{◌≡◌};
 ghost use Rattle.text.specs.Page.{page, put_one, put as Page·put};
 ghost use Rattle.text.specs.Numeral.{numeral as Numeral·numeral};
 
+use itoa::Buffer;
+
 // Puts one byte.
 pub fn put_one(out: &mut [u8], at: usize, b: u8) -> usize
     ensures { put_one (page at out.old) b ≡ page result out.new }
@@ -34,7 +36,6 @@ pub fn put(out: &mut [u8], at: usize, text: &[u8]) -> usize
 pub fn numeral(out: &mut [u8], at: usize, v: u32) -> usize
     ensures { Page·put (page at out.old) (Numeral·numeral v) ≡ page result out.new }
 {
-    let mut digits = [0u8; 20];
-    let k = io::decimal(v as u64, &mut digits);
-    put(out, at, &digits[..k])
+    let mut digits = Buffer::new();
+    put(out, at, digits.format(v).as_bytes())
 }
