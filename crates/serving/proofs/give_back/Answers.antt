@@ -5,7 +5,7 @@ use Rattle.serving.proofs.give_back.Goals as goal
 
 pub returns-in_default : goal.returns-in_default
 unfolding model.give_back
-returns-in_default c = rw (← c.look_up.ensures, ← c.held_there-found.ensures, c.enum_told-1.given.1)
+returns-in_default c = rw (← c.look_up.ensures, ← c.held_there-found.ensures, c.in_default.is)
 
 pub returns : goal.returns
 unfolding model.give_back

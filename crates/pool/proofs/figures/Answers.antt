@@ -5,18 +5,14 @@ use Rattle.serving.proofs.CountServes.{figures-serve}
 use Rattle.paper.specs.declared.Tally.TheVariants.{Counted}
 use borrow.Author.Rules.{rules}
 use mathlib.Core.Path.{ap, sym, ◌∙◌}
-use Rattle.pool.proofs.figures.Statement.{statement}
-use Rattle.pool.proofs.figures.Tie as tie
+use Rattle.pool.proofs.figures.Goals as goal
 
-returns : tie.Need-returns
+pub returns-then-why-ne0 : goal.returns-then-why-ne0
 unfolding call.figures
-returns c = sym (refused _ c.before.refusal.ensures _ _ c.if1.true)
+returns-then-why-ne0 c = sym (refused _ c.refusal-why.ensures _ _ c.if-why-ne0.true)
 
-returns-2 : tie.Need-returns-2
+pub returns : goal.returns
 unfolding call.figures
-returns-2 c =
-    sym (served _ c.before.before.refusal.ensures _ _ c.before.if1.false
+returns c =
+    sym (served _ c.refusal-why.ensures _ _ c.if-why-ne0.false
     (λ s S B. ap Counted (sym (c.tally.ensures ∙ figures-serve s _ S))))
-
-pub figures-spec : {M : Type 1} → statement M
-figures-spec = tie.close (tie.spec (λ c κs. search rules) returns (λ c κs. search rules) returns-2)

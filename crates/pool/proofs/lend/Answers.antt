@@ -1,0 +1,8 @@
+-- pool::lend meets its contract: the range between the bounds is the part.
+use borrow.Author.Rules.{rules}
+use mathlib.Core.Path.{refl}
+use Rattle.pool.proofs.Lent.{lent-part}
+use Rattle.pool.proofs.lend.Goals as goal
+
+pub returns : goal.returns
+returns c = lent-part _ _ _ _ c.bounds-s.ensures refl refl
