@@ -2,11 +2,11 @@
 use mathlib.Core.Path.{◌≡◌, ap, sym, ◌∙◌}
 use mathlib.Core.List.{List}
 use Prim.Native.Nat.{ℕ}
-use denote.Ref.{Bor}
+use Rattle.std.specs.Borrow.{Bor, MutBor}
 use Rattle.paper.specs.declared.Answer.{Answer}
 use Rattle.paper.specs.declared.Tally.{Tally}
 use Rattle.paper.specs.Answers.{Out, out}
-use Rattle.pool.specs.Calls.{lay_out, inspect, take, give_back, ask, ask_all, Lent, figures, class_count}
+use Rattle.pool.specs.Calls.{lay_out, inspect, take, give_back, ask, ask_all, Lent, LentMut, figures, class_count}
 
 -- an outcome is an answer and the bytes afterwards
 same_outcome : (o : Out) (r r' : Answer) (a a' : List ℕ) → o ≡ out r a → o ≡ out r' a' → (r ≡ r') × (a ≡ a')
@@ -46,3 +46,7 @@ module _ (bs : List ℕ) where
 pub lend-determined : (pool : Bor (List ℕ)) (offset : ℕ) (r r' : Bor (List ℕ)) → Lent r pool offset → Lent r' pool offset
     → (r.now ≡ r'.now) × (r.ref_ptr ≡ r'.ref_ptr)
 lend-determined pool offset r r' l l' = (l.bytes ∙ sym l'.bytes, l.place ∙ sym l'.place)
+
+pub lend_mut-determined : (pool : MutBor (List ℕ)) (offset : ℕ) (r r' : MutBor (List ℕ)) → LentMut r pool offset → LentMut r' pool offset
+    → (r.now ≡ r'.now) × (r.ref_ptr ≡ r'.ref_ptr)
+lend_mut-determined pool offset r r' l l' = (l.bytes ∙ sym l'.bytes, l.place ∙ sym l'.place)

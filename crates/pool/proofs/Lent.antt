@@ -6,7 +6,7 @@ use Prim.Native.Nat.{ℕ, ◌+◌, ◌-◌, ◌≤◌}
 use native.Mathlib.Nat.{add_comm}
 use native.Mathlib.Omega.{arith}
 use lib.ListN.{length, take, drop}
-use denote.Ref.{Bor}
+use Rattle.std.specs.Borrow.{Bor, MutBor}
 use Rattle.paper.specs.Calls.{Reading, misfit, broken, sound, ask_call, lend_from, lend_to}
 use Rattle.paper.specs.declared.Answer.TheVariants.{Done, Refused}
 use Rattle.paper.proofs.runs.Asking.{ask-done, ask-refused}
@@ -16,7 +16,7 @@ use Rattle.reading.specs.Read.{read}
 use Rattle.reading.proofs.Asked.{read-sound}
 use Rattle.pool.specs.declared.parts.Span.{Span}
 use Rattle.pool.specs.Parts.{Bounds}
-use Rattle.pool.specs.Calls.{Lent, part_from, part_to}
+use Rattle.pool.specs.Calls.{Lent, LentMut, part_from, part_to}
 use Rattle.pool.specs.Calls as call
 
 module _ (bs : List ℕ) (offset : ℕ) where
@@ -58,6 +58,14 @@ module _ (bs : List ℕ) (offset : ℕ) where
 pub lent-part : (r pool : Bor (List ℕ)) (offset : ℕ) (s : Span) → Bounds pool.now offset s
     → r.now ≡ take (s.to - s.from) (drop s.from pool.now) → r.ref_ptr ≡ (pool.ref_ptr.0, s.from + pool.ref_ptr.1) → Lent r pool offset
 lent-part r pool offset s w e p =
+    record {
+      bytes = e ∙ ap₂ (λ (x y : ℕ). take (y - x) (drop x pool.now)) w.starts w.ends;
+      place = p ∙ ap (λ (x : ℕ). (pool.ref_ptr.0, x)) (add_comm s.from pool.ref_ptr.1 ∙ ap (λ (x : ℕ). pool.ref_ptr.1 + x) w.starts);
+    }
+
+pub lent-mut-part : (r pool : MutBor (List ℕ)) (offset : ℕ) (s : Span) → Bounds pool.now offset s
+    → r.now ≡ take (s.to - s.from) (drop s.from pool.now) → r.ref_ptr ≡ (pool.ref_ptr.0, s.from + pool.ref_ptr.1) → LentMut r pool offset
+lent-mut-part r pool offset s w e p =
     record {
       bytes = e ∙ ap₂ (λ (x y : ℕ). take (y - x) (drop x pool.now)) w.starts w.ends;
       place = p ∙ ap (λ (x : ℕ). (pool.ref_ptr.0, x)) (add_comm s.from pool.ref_ptr.1 ∙ ap (λ (x : ℕ). pool.ref_ptr.1 + x) w.starts);

@@ -1,6 +1,6 @@
 -- The public calls, by the paper: what each answers and every lent byte afterwards, as a function of its arguments and the bytes before.
 use Rattle.std.specs.Prelude.{◌≡◌, List, ℕ, ◌+◌, ◌-◌, take as firsts, drop}
-use Rattle.std.specs.Borrow.{Bor}
+use Rattle.std.specs.Borrow.{Bor, MutBor}
 use Rattle.paper.specs.declared.Answer.{Answer}
 use Rattle.paper.specs.declared.Tally.{Tally}
 use Rattle.paper.specs.Answers.{Out}
@@ -38,6 +38,11 @@ part bs offset = firsts (part_to bs offset - part_from bs offset) (drop (part_fr
 
 -- a reference to it: its bytes, and its place, which is a block of memory and an offset there
 pub record Lent (r pool : Bor (List ℕ)) (offset : ℕ) : Type 0 where
+  pub bytes : r.now ≡ part pool.now offset
+  pub place : r.ref_ptr ≡ (pool.ref_ptr.0, pool.ref_ptr.1 + part_from pool.now offset)
+
+-- the same of a reference for writing
+pub record LentMut (r pool : MutBor (List ℕ)) (offset : ℕ) : Type 0 where
   pub bytes : r.now ≡ part pool.now offset
   pub place : r.ref_ptr ≡ (pool.ref_ptr.0, pool.ref_ptr.1 + part_from pool.now offset)
 

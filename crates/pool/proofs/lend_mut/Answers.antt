@@ -1,8 +1,8 @@
 -- pool::lend_mut meets its contract: the range between the bounds is the part.
 use borrow.Author.Rules.{rules}
 use mathlib.Core.Path.{refl}
-use Rattle.pool.proofs.Lent.{lent-part}
+use Rattle.pool.proofs.Lent.{lent-mut-part}
 use Rattle.pool.proofs.lend_mut.Goals as goal
 
 pub returns : goal.returns
-returns c = lent-part _ _ _ _ c.bounds-s.ensures refl refl
+returns c = lent-mut-part _ _ _ _ c.bounds-s.ensures refl refl
