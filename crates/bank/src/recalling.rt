@@ -7,7 +7,7 @@ use crate::{naming, records};
 use paper::Answer;
 
 // Where a record starts and ends in the pool, and the number that recalling it answers.
-#[derive(Drop)]
+#[derive(Clone, Copy)]
 pub struct Place {
     pub number: u8,
     pub from: usize,
@@ -65,7 +65,7 @@ pub fn ask(pool: &[u8], bank: &[u32; 32], piston: u32) -> Answer
 }
 
 // A recalled record, and the number that the call answers.
-#[derive(Drop)]
+#[derive(Clone, Copy)]
 pub struct Recalled<'a> {
     pub number: u8,
     pub part: &'a [u8],

@@ -8,18 +8,11 @@ use denote.Ref.{Bor}
 use Rattle.bank.specs.Calls.{shown}
 use Rattle.bank.specs.Recalls.{Cuts}
 use Rattle.bank.specs.declared.recalling.Place.{Place}
-use Rattle.bank.proofs.recalling.cut.Statement.{statement}
-use Rattle.bank.proofs.recalling.cut.Tie as tie
+use Rattle.bank.proofs.recalling.cut.Goals as goal
 
 -- a range's place, as the borrow checker has it, adds the other way round
 cut-part : (r pool : Bor (List ℕ)) (p : Place) → r.now ≡ shown pool.now p → r.ref_ptr ≡ (pool.ref_ptr.0, p.from + pool.ref_ptr.1) → Cuts r pool p
 cut-part r pool p e l = record { bytes = e; place = l ∙ ap (λ (x : ℕ). (pool.ref_ptr.0, x)) (add_comm p.from pool.ref_ptr.1) }
 
-pub cut_spec : {M : Type 1} → statement M
-cut_spec =
-    tie.close
-    (tie.spec
-    (λ c. search rules)
-    (λ c. search rules)
-    (λ c. search rules)
-    (λ c. cut-part _ _ _ refl refl))
+pub returns : goal.returns
+returns c = cut-part _ _ _ refl refl

@@ -1,0 +1,8 @@
+-- lines::number meets its contract: a space, and the numeral after it.
+use borrow.Author.Rules.{rules}
+use Rattle.text.specs.Page.{put}
+use Rattle.lines.proofs.number.Goals as goal
+
+pub returns : goal.returns
+unfolding put
+returns c = cc
