@@ -81,8 +81,7 @@ fn cut(pool: &[u8], place: Place) -> &[u8]
     &pool[from..to]
 }
 
-// The record of a piston as a part of the pool, and the number; the empty part at the pool's end where there is none. The borrow checker
-// covers no function that makes a struct with a slice in it, so this one is proved by hand, and does nothing but call.
+// The record of a piston as a part of the pool, and the number; the empty part at the pool's end where there is none.
 pub fn recall<'a>(pool: &'a [u8], bank: &[u32; 32], piston: u32) -> Recalled<'a>
     ensures { Recalls result pool.entry bank.now piston }
 {

@@ -3,7 +3,7 @@
 // offset. Each contract is an equation with the paper's own definition (crates/paper/specs/Calls.antt).
 #![tactic(auto)]
 
-mod lists;
+mod numbers;
 mod parts;
 
 ghost use Rattle.std.specs.Prelude.{◌≡◌};
@@ -84,7 +84,7 @@ pub fn ask_all(pool: &[u8], offsets: &[u32], place: u32) -> Answer
     if !serving::all_held(pool, offsets) {
         return Answer::Refused(paper::NOT_HELD);
     }
-    let offset = lists::number_at(offsets, place);
+    let offset = numbers::number_at(offsets, place);
     if offset == 0 {
         return Answer::Done(0);
     }

@@ -1,6 +1,5 @@
 // The tape reader: a tape and a place in it. The paper asks for this form, a thin struct over a function on slice and number, so the
-// reader does no work of its own: it is made, and taken apart again for `read`. The borrow checker covers no function over a struct that
-// holds a slice, so the three below are proved by hand and kept as short as can be.
+// reader does no work of its own: it is made, and taken apart again for `read`.
 ghost use Rattle.std.specs.Prelude.{◌≡◌};
 ghost use Rattle.records.specs.Records.{read_at};
 
@@ -26,8 +25,8 @@ fn record_of<'a>(r: Reader<'a>) -> Record
     read(r.tape, r.at)
 }
 
-// The record at a place of a tape, asked of a reader. It takes slice and number again, so the borrow checker covers its callers: the
-// run asks the reader, and its proof never meets the struct.
+// The record at a place of a tape, asked of a reader. It takes slice and number again: the run asks the reader, and its proof never
+// meets the struct.
 pub fn record_at(tape: &[u8], at: usize) -> Record
     ensures { result ≡ read_at tape.now at }
 {

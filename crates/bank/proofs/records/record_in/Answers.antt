@@ -11,7 +11,7 @@ pub returns-in_default : goal.returns-in_default
 returns-in_default c = in-unknown _ _ c.kind_of.ensures c.in_default.is
 
 pub overflow_add-size : goal.overflow_add-size
-overflow_add-size c = record { fits = omega (arith, c.body_of-size.ensures, body-short c.k-1.given.0.0) }
+overflow_add-size c = record { fits = omega (arith, c.body_of-size.ensures, body-short c.in-Is.k) }
 
 pub returns-then-payload-size : goal.returns-then-payload-size
 returns-then-payload-size c =

@@ -2,7 +2,7 @@
 use borrow.Author.Rules.{rules}
 use lib.ListN.{get_or-eq_default}
 use mathlib.Core.Path.{sym}
-use Rattle.pool.proofs.lists.number_at.Goals as goal
+use Rattle.pool.proofs.numbers.number_at.Goals as goal
 
 pub returns : goal.returns
 returns c = sym (get_or-eq_default c.args.list.now 0 c.if-i-list.false)
