@@ -18,7 +18,6 @@ use Rattle.header.specs.Header.{E, R, cleared}
 use Rattle.lists.specs.Lists.{large_tests, next_large, next_small, small_tests}
 use Rattle.runs.specs.Runs.{small}
 use Rattle.heads.specs.Heads.{size_at}
-use Rattle.guards.specs.Tests.{holds}
 use Rattle.paper.proofs.bins.Bins.{count-nil}
 use Rattle.paper.proofs.sheet.Fields.{height-le}
 use Rattle.paper.proofs.bins.Listed.{free_at-append, free_at-in}

@@ -12,7 +12,7 @@ use Rattle.lists.proofs.Following.{lost-left}
 use Rattle.lists.specs.Lists.{follow, left, lost}
 use Rattle.marks.specs.MarkSets.{MarkSet}
 use Rattle.guards.specs.Tests.{Test, less}
-use Rattle.paper.proofs.bins.Bins.{count-cons, count-here, count-nil, count-there, empty, next-absent, prev-absent}
+use Rattle.paper.proofs.bins.Bins.{count-cons, count-here, count-nil, count-there, next-absent, prev-absent}
 use Rattle.paper.specs.Bins.{count, first, next_in, prev_in}
 use Rattle.words.specs.Choice.{by=, if=, if=-no, if=-yes, ifs}
 

@@ -5,7 +5,7 @@ use mathlib.Core.Path.{◌≡◌, ap, sym, ◌∙◌}
 use Prim.Native.Nat.{ℕ, ◌+◌, ◌-◌, ◌≤◌}
 use native.Mathlib.Omega.{arith}
 use lib.ListN.{drop, get_or, length, take as firsts}
-use Rattle.words.specs.Choice.{by=, if=, if=-no, if=-yes}
+use Rattle.words.specs.Choice.{by=, if=-no, if=-yes}
 use Rattle.words.specs.Words.{Bytes}
 use Rattle.paper.specs.Answers.{not_held}
 use Rattle.paper.specs.declared.Answer.TheVariants.{Done, Refused}

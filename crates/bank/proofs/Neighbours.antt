@@ -9,7 +9,6 @@ use lib.ListN.{get_or, length}
 use Rattle.words.proofs.Parts.{replaced-length}
 use Rattle.words.specs.Choice.{by=, if=, if=-no, if=-yes}
 use Rattle.words.specs.Words.{Bytes}
-use Rattle.paper.specs.Answers.{number}
 use Rattle.paper.specs.declared.Answer.TheVariants.{Done}
 use Rattle.pool.proofs.Accepting.{Accepted, give-back-accepted, give-back-long, take-accepted, take_long, write-accepted}
 use Rattle.pool.proofs.Holding.{Held, give-back-keeps-held, payload-inside, take-keeps-held, write-keeps-held}

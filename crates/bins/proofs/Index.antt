@@ -18,7 +18,7 @@ use Rattle.paper.proofs.runs.Walk.{In, in-low}
 use Rattle.paper.proofs.sheet.Stores.{puts}
 use Rattle.paper.proofs.steps.First.{OnLevel}
 use Rattle.paper.specs.Bins.{count}
-use Rattle.paper.specs.Blocks.{State, block, blocks, end, free, size}
+use Rattle.paper.specs.Blocks.{State, block, blocks, end, free}
 use Rattle.paper.specs.Governed.{above}
 use Rattle.paper.specs.Layout.{blocks_at, false_block, large, level_at, levels}
 use Rattle.words.proofs.Laws.{word-apart}

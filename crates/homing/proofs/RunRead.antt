@@ -17,7 +17,7 @@ use Rattle.paper.proofs.reads.Readings.{head-reads}
 use Rattle.paper.proofs.runs.Flags.{high-flag}
 use Rattle.paper.proofs.runs.LowHigh.{high_parts}
 use Rattle.paper.proofs.runs.Walk.{In, in-flag, in-mid, sized-parts, total-append}
-use Rattle.paper.specs.Blocks.{Block, State, block, blocks, end, free, held, remainder, size, total}
+use Rattle.paper.specs.Blocks.{Block, State, block, blocks, end, free, held, remainder, total}
 use Rattle.paper.specs.Governed.{flag_above, sheet}
 use Rattle.paper.specs.Granting.{E}
 use Rattle.paper.specs.Layout.{blocks_at}

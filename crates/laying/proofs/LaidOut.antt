@@ -21,7 +21,6 @@ use Rattle.paper.specs.Sheet.{Sheet, write}
 use Rattle.laying.proofs.StoredSheet.{cleared-zeros, over, put-over, put-over-8, write_same, zeros}
 use Rattle.laying.specs.LayingOut.{lay_out}
 use Rattle.words.specs.Choice.{by<, by=, if<, if<-no, if<-yes, if=, if=-no, if=-yes}
-use Rattle.words.specs.Words.{put_at}
 
 -- the sheet that the stores make, the last one outermost
 unfoldable stored : ℕ → ℕ → Sheet

@@ -12,7 +12,7 @@ use Rattle.paper.specs.Answers.{Out, out, no_room}
 use Rattle.paper.specs.Blocks.{State}
 use Rattle.paper.specs.Calls.{Reading, misfit, broken, sound, take_call, figures_call, leaves}
 use Rattle.paper.specs.Counting.{figures as figures_of}
-use Rattle.paper.specs.Granting.{Result, refused, take as take_of}
+use Rattle.paper.specs.Granting.{Result, take as take_of}
 use Rattle.paper.specs.LargestGrant.{largest_grant}
 use Rattle.paper.specs.Sheet.{Holds}
 use Rattle.paper.proofs.keeps.LargestGrant.{largest-granted, greater-refused, refused_none}

@@ -8,12 +8,11 @@ use Rattle.words.specs.Choice.{by=, if=-no, if=-yes}
 use Rattle.words.specs.Sums.{minus}
 use Rattle.words.specs.Words.{Bytes}
 use Rattle.giveback.proofs.BackBytes.{back-bytes}
-use Rattle.giveback.specs.GiveBack as giveback
 use Rattle.paper.proofs.keeps.BackKeeps.{give_back-keeps, give_back-none, give_back-some}
 use Rattle.paper.proofs.reads.Stands.{Stands}
 use Rattle.paper.proofs.runs.HeldPlaces.{held_at}
 use Rattle.paper.proofs.runs.HeldWalk.{held-within}
-use Rattle.paper.specs.Answers.{Out, out, not_held}
+use Rattle.paper.specs.Answers.{out, not_held}
 use Rattle.paper.specs.Blocks.{State}
 use Rattle.paper.specs.Calls.{leaves}
 use Rattle.paper.specs.declared.Answer.{Answer}

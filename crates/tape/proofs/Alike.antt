@@ -5,11 +5,11 @@ use mathlib.Core.List.{List, [], ◌∷◌, append-nil, map}
 use mathlib.Core.Logic.{◌⊎◌, inl, inr}
 use mathlib.Core.Option.{Option, none, some}
 use mathlib.Core.Path.{◌≡◌, refl, sym, ap, ◌∙◌, subst}
-use Prim.Native.Nat.{ℕ, zero, suc, ◌+◌, ◌≤◌, ◌<◌}
+use Prim.Native.Nat.{ℕ, zero, suc}
 use native.Mathlib.Omega.{arith}
 use lib.ListN.{length, take as first_of}
 use lib.Seq.{length-take-le}
-use Rattle.words.specs.Choice.{if<, if<-yes, if<-no, if=, if=-yes, if=-no, by<}
+use Rattle.words.specs.Choice.{if<-yes, if<-no, if=, by<}
 use Rattle.words.specs.Words.{Bytes}
 use Rattle.paper.proofs.keeps.AnyLayout.{figures-any, give-back-any, give-back-top, retopped, take-any, take-top}
 use Rattle.paper.proofs.reads.Standing.{stands-sound}
@@ -28,7 +28,7 @@ use Rattle.records.specs.declared.request.Record.TheVariants.{Whole, Unreadable}
 use Rattle.records.specs.declared.request.Request.{Request}
 use Rattle.records.specs.declared.request.Request.TheVariants.{LayOut, LayOutIndexed, Take, GiveBack, Figures}
 use Rattle.lines.specs.Lines.{answered, letter_of}
-use Rattle.tape.specs.Alike.{AlikeRuns, Line, SamePools, last_pool, line, other_letter, other_top, printed, relettered}
+use Rattle.tape.specs.Alike.{AlikeRuns, SamePools, last_pool, line, other_letter, other_top, printed, relettered}
 use Rattle.tape.specs.Run.{Run, longest, run, run_of, x_line}
 use Rattle.tape.specs.Serve.{pool}
 use Rattle.tape.proofs.States.{StandsFor, States, Step, laid_state, lay_state, result, serve_state, states, states_from, states_of, tape-by-states, then_states}

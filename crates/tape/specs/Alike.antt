@@ -2,11 +2,10 @@
 -- of lay outs, and end in pools with the same blocks and lists.
 use Rattle.std.specs.Prelude.{◌≡◌, ◌⊎◌, List, [], ◌∷◌, ◌++◌, map, ℕ, ◌+◌, take as first_of}
 use Rattle.words.specs.Choice.{if=}
-use Rattle.paper.specs.Blocks.{State, with_top}
+use Rattle.paper.specs.Blocks.{with_top}
 use Rattle.paper.specs.Layout.{levels}
 use Rattle.paper.specs.Sound.{Sound}
 use Rattle.lines.specs.Lines.{line_of}
-use Rattle.tape.specs.Serve.{Pool}
 use Rattle.tape.specs.Run.{Run}
 
 -- a line but for its record's number

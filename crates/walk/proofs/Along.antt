@@ -1,10 +1,10 @@
 -- A walk along the blocks, for the loops: the whole walk is the walk from here, and each way out or on is one law.
-use mathlib.Core.Path.{◌≡◌, refl, sym, ap, ◌∙◌, subst}
+use mathlib.Core.Path.{◌≡◌, refl, sym, ap, ◌∙◌}
 use mathlib.Core.Logic.{◌≢◌}
 use mathlib.Core.List.{List}
 use Prim.Native.Nat.{ℕ, zero, suc, ◌+◌, ◌≤◌, ◌<◌}
 use native.Mathlib.Omega.{arith}
-use Rattle.words.specs.Choice.{if<, if=, if=-yes, if=-no, if<-yes, if<-no}
+use Rattle.words.specs.Choice.{if=, if=-yes, if=-no, if<-yes, if<-no}
 use Rattle.heads.specs.declared.head.Head.{Head}
 use Rattle.walk.specs.Blocks.{head_at, along, blocks_from}
 

@@ -1,8 +1,8 @@
 -- The tally over the bytes of a pool is the paper's figures: the heads of a run add what the paper sums over its blocks.
 -- No sum reaches 2^32, since each is at most the bytes of the blocks.
-use mathlib.Core.List.{List, [], ◌++◌, ◌∷◌}
+use mathlib.Core.List.{List, [], ◌∷◌}
 use mathlib.Core.Path.{◌∙◌, ◌≡◌, ap, refl, sym}
-use Prim.Native.Nat.{◌+◌, ◌-◌, ◌<◌, ◌≤◌, max, ℕ}
+use Prim.Native.Nat.{◌+◌, ◌-◌, ◌<◌, max, ℕ}
 use native.Mathlib.Omega.{arith}
 use Rattle.paper.proofs.keeps.Givable.{givable-append, greatest_givable}
 use Rattle.paper.proofs.keeps.LargestGrant.{plain-rule}

@@ -14,7 +14,7 @@ use Rattle.paper.specs.declared.Found.{Found}
 use Rattle.paper.specs.declared.Found.TheVariants.{Nothing, Remainder}
 use Rattle.paper.specs.Governed.{flag_above}
 use Rattle.paper.specs.Granting.{E, R}
-use Rattle.paper.specs.Layout.{blocks_at, end_at, start_at}
+use Rattle.paper.specs.Layout.{blocks_at}
 use Rattle.paper.specs.LookingUp as paper
 use Rattle.paper.specs.Sound.{Sized}
 use Rattle.walk.proofs.BlocksRead.{E-reads, HeadsRead, R-reads, end_is, end-size, head_for, high-heads, low-heads, parts}
@@ -23,7 +23,6 @@ use Rattle.walk.specs.LookUp.{block_in, found_at}
 use Rattle.walk.specs.LookUp as model
 use Rattle.words.specs.Choice.{by<, if<, if<-no, if<-yes, if=, if=-no, if=-yes, when}
 use Rattle.words.specs.Sums.{minus}
-use Rattle.words.specs.Words.{word_at}
 
 -- of a block that is not the remainder the head says the kind
 kind-read : (z : ℕ) (c : Kind) (xs : List Block) (P p : ℕ) → NoRemainder (block z c ∷ xs) → found_at (head_for (block z c) P) p ≡ paper.found c p z

@@ -1,12 +1,11 @@
 -- The walk to the block that an address is in, for the loop: the whole walk is the walk from here, and each way out or on is one law.
-use mathlib.Core.Path.{◌≡◌, refl, sym, ap, ◌∙◌}
+use mathlib.Core.Path.{◌≡◌, refl, ◌∙◌}
 use mathlib.Core.Logic.{◌≢◌}
 use mathlib.Core.List.{List}
 use Prim.Native.Nat.{ℕ, zero, suc, ◌+◌, ◌≤◌, ◌<◌}
 use native.Mathlib.Omega.{arith}
 use Rattle.words.specs.Choice.{if<, if=, if=-yes, if=-no, if<-yes, if<-no}
 use Rattle.heads.specs.declared.head.Head.{Head}
-use Rattle.paper.specs.declared.Found.{Found}
 use Rattle.paper.specs.declared.Found.TheVariants.{Nothing}
 use Rattle.walk.specs.Blocks.{head_at}
 use Rattle.walk.specs.LookUp.{found_at, block_in, block_at}

@@ -1,6 +1,5 @@
 -- asking::all_held meets its contract, by its text.
 use Rattle.asking.specs.AllHeld.{all_held, held_marks}
-use borrow.Author.Rules.{rules}
 use Rattle.asking.proofs.all_held.Goals as goal
 
 pub returns : goal.returns

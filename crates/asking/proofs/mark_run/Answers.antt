@@ -1,12 +1,9 @@
 -- asking::mark_run meets its contract: the walk that marks. In a turn `head` is the place where the head was read.
-use Prim.Native.Nat.{◌-◌}
 use Rattle.asking.specs.AllHeld.{Marking, marking, marked, mark_run}
 use Rattle.heads.specs.Heads.{head_of}
-use Rattle.walk.proofs.Along.{Along, begins, ends, stuck, goes_on}
+use Rattle.walk.proofs.Along.{begins, ends, stuck, goes_on}
 use Rattle.words.specs.Choice.{when-yes, when-no}
-use borrow.Author.Rules.{rules}
-use lib.ListN.{length}
-use mathlib.Core.Path.{◌≡◌, refl, sym, ◌∙◌, ap}
+use mathlib.Core.Path.{refl, sym, ◌∙◌, ap}
 use Rattle.asking.proofs.mark_run.Goals as goal
 
 pub loop-at-init : goal.loop-at-init
@@ -21,22 +18,20 @@ returns-then-head-eq0 c =
 
 pub loop-at-preserved-then-head : goal.loop-at-preserved-then-head
 unfolding marked
-loop-at-preserved-then-head c =
-    (
-      goes_on c.loop-at.invariant.0 c.loop-at-test.true c.apart-head.result
-          (c.apart-head.ensures ∙ ap head_of c.get32.ensures) c.if-head-eq0.false _
-          (rw (when-yes _ _ _ c.if-head.true) (ap (marking _) c.mark.ensures)),
-      c.mark.auto.m ∙ c.loop-at.invariant.1,
-    )
+loop-at-preserved-then-head c = (
+  goes_on c.loop-at.invariant.0 c.loop-at-test.true c.apart-head.result
+      (c.apart-head.ensures ∙ ap head_of c.get32.ensures) c.if-head-eq0.false _
+      (rw (when-yes _ _ _ c.if-head.true) (ap (marking _) c.mark.ensures)),
+  c.mark.auto.m ∙ c.loop-at.invariant.1,
+)
 
 pub loop-at-preserved : goal.loop-at-preserved
 unfolding marked
-loop-at-preserved c =
-    (
-      goes_on c.loop-at.invariant.0 c.loop-at-test.true c.apart-head.result
-          (c.apart-head.ensures ∙ ap head_of c.get32.ensures) c.if-head-eq0.false _ (rw (when-no _ _ _ c.if-head.false) refl),
-      c.loop-at.invariant.1,
-    )
+loop-at-preserved c = (
+  goes_on c.loop-at.invariant.0 c.loop-at-test.true c.apart-head.result
+      (c.apart-head.ensures ∙ ap head_of c.get32.ensures) c.if-head-eq0.false _ (rw (when-no _ _ _ c.if-head.false) refl),
+  c.loop-at.invariant.1,
+)
 
 pub returns : goal.returns
 unfolding mark_run

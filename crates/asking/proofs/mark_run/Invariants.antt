@@ -1,12 +1,9 @@
 -- asking::mark_run meets its contract: the walk that marks. In a turn `head` is the place where the head was read.
 use Prim.Native.Nat.{◌-◌}
-use Rattle.asking.specs.AllHeld.{Marking, marking, marked, mark_run}
-use Rattle.heads.specs.Heads.{head_of}
-use Rattle.walk.proofs.Along.{Along, begins, ends, stuck, goes_on}
-use Rattle.words.specs.Choice.{when-yes, when-no}
-use borrow.Author.Rules.{rules}
+use Rattle.asking.specs.AllHeld.{marking, marked}
+use Rattle.walk.proofs.Along.{Along}
 use lib.ListN.{length}
-use mathlib.Core.Path.{◌≡◌, refl, sym, ◌∙◌, ap}
+use mathlib.Core.Path.{◌≡◌}
 use Rattle.asking.proofs.mark_run.Given as goal
 
 abbrev pub invariant-loop-at : goal.invariant-loop-at

@@ -1,8 +1,5 @@
 -- asking::used_up meets its contract: offset by offset.
-use Prim.Native.Nat.{◌-◌}
-use Rattle.asking.proofs.Using.{Using, begins, ends, skips, unmarked, goes_on}
-use borrow.Author.Rules.{rules}
-use lib.ListN.{length}
+use Rattle.asking.proofs.Using.{begins, ends, skips, unmarked, goes_on}
 use mathlib.Core.Path.{sym}
 use Rattle.asking.proofs.used_up.Goals as goal
 

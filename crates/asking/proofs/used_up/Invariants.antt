@@ -1,9 +1,7 @@
 -- asking::used_up meets its contract: offset by offset.
 use Prim.Native.Nat.{◌-◌}
-use Rattle.asking.proofs.Using.{Using, begins, ends, skips, unmarked, goes_on}
-use borrow.Author.Rules.{rules}
+use Rattle.asking.proofs.Using.{Using}
 use lib.ListN.{length}
-use mathlib.Core.Path.{sym}
 use Rattle.asking.proofs.used_up.Given as goal
 
 abbrev pub invariant-loop-i : goal.invariant-loop-i

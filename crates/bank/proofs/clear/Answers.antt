@@ -1,7 +1,6 @@
 -- bank::clear meets its contract: refused by what is asked first, or the old block is given back.
 use Rattle.bank.proofs.Outcomes.{clear-done, clear-refused, clear-short}
 use Rattle.bank.proofs.Refusals.{nothing-refuses}
-use borrow.Author.Rules.{rules}
 use native.Mathlib.Omega.{arith}
 use Rattle.bank.proofs.clear.Goals as goal
 

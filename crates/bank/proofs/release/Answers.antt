@@ -1,6 +1,5 @@
 -- bank::release meets its contract, by whether there is an old block.
 use Rattle.bank.proofs.Outcomes.{released-none, released-old}
-use borrow.Author.Rules.{rules}
 use Rattle.bank.proofs.release.Goals as goal
 
 pub returns-then-old-ne0 : goal.returns-then-old-ne0

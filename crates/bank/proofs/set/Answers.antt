@@ -2,7 +2,6 @@
 use Rattle.bank.proofs.Outcomes.{record-put, set-done, set-fits, set-no-record, set-no-room, set-refused, set-short}
 use Rattle.bank.proofs.RecordLaws.{record-short}
 use Rattle.bank.proofs.Refusals.{nothing-refuses}
-use borrow.Author.Rules.{rules}
 use borrow.Author.Tests.{not-false, not-true}
 use mathlib.Core.Path.{sym, ◌∙◌}
 use native.Mathlib.Omega.{arith}

@@ -1,5 +1,4 @@
 -- board::pool_ask meets its contract: it tells what the pool's call answers.
-use borrow.Author.Rules.{rules}
 use mathlib.Core.Path.{ap, sym, ◌∙◌}
 use Rattle.board.specs.Heard.{heard}
 use Rattle.board.proofs.pool_ask.Goals as goal

@@ -1,5 +1,4 @@
 -- board::pool_convert meets its contract: it tells what the call answers, and leaves what that leaves.
-use borrow.Author.Rules.{rules}
 use Rattle.board.proofs.Told.{told}
 use Rattle.board.proofs.pool_convert.Goals as goal
 

@@ -1,5 +1,4 @@
 -- board::pool_figures meets its contract: it tells the pool's figures, put into the list.
-use borrow.Author.Rules.{rules}
 use Rattle.board.proofs.Told.{told, figures-told}
 use Rattle.board.proofs.pool_figures.Goals as goal
 

@@ -1,5 +1,4 @@
 -- board::pool_inspect meets its contract: it tells what the pool's call answers.
-use borrow.Author.Rules.{rules}
 use mathlib.Core.Path.{ap, sym, ◌∙◌}
 use Rattle.board.specs.Heard.{heard}
 use Rattle.board.proofs.pool_inspect.Goals as goal

@@ -1,5 +1,4 @@
 -- bringing::bring_in meets its contract: refused with a number, or the free run at E has gone home.
-use borrow.Author.Rules.{rules}
 use Rattle.bringing.proofs.Outcomes.{done-with, refused-with}
 use Rattle.bringing.proofs.bring_in.Goals as goal
 

@@ -1,7 +1,6 @@
 -- choosing::choose meets its contract, by the tests on the size.
 use Rattle.choosing.specs.Choosing.{choose}
 use Rattle.words.specs.Choice.{if=-yes, if=-no, if<-yes, if<-no}
-use borrow.Author.Rules.{rules}
 use Rattle.choosing.proofs.choose.Goals as goal
 
 pub returns-then-s-eq0 : goal.returns-then-s-eq0

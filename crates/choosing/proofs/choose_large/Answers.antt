@@ -2,7 +2,6 @@
 use Rattle.choosing.specs.Choosing.{choose_large}
 use Rattle.words.specs.Choice.{if=-yes, if=-no, when-no, when-yes}
 use mathlib.Core.Path.{sym, ◌∙◌}
-use borrow.Author.Rules.{rules}
 use Rattle.choosing.proofs.choose_large.Goals as goal
 
 pub returns-then-empty : goal.returns-then-empty

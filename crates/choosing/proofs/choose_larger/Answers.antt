@@ -2,7 +2,6 @@
 use Rattle.choosing.specs.Choosing.{choose_larger}
 use Rattle.words.specs.Choice.{when-yes, when-no}
 use mathlib.Core.Path.{sym, ◌∙◌}
-use borrow.Author.Rules.{rules}
 use Rattle.choosing.proofs.choose_larger.Goals as goal
 
 pub returns-then-none : goal.returns-then-none

@@ -2,7 +2,6 @@
 use Rattle.choosing.specs.Choosing.{choose_small}
 use Rattle.words.specs.Choice.{if=-yes, if=-no}
 use mathlib.Core.Path.{sym, ◌∙◌}
-use borrow.Author.Rules.{rules}
 use Rattle.choosing.proofs.choose_small.Goals as goal
 
 pub returns-then-first-eq0 : goal.returns-then-first-eq0

@@ -1,7 +1,6 @@
 -- choosing::low_end meets its contract, by the test on the remainder.
 use Rattle.choosing.specs.Choosing.{low_end_choice}
 use Rattle.words.specs.Choice.{if<-yes, if<-no}
-use borrow.Author.Rules.{rules}
 use Rattle.choosing.proofs.low_end.Goals as goal
 
 pub returns-then-rest-b : goal.returns-then-rest-b

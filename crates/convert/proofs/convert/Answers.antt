@@ -1,5 +1,4 @@
 -- convert::convert meets its contract: refused with a number, or moved.
-use borrow.Author.Rules.{rules}
 use native.Mathlib.Omega.{arith}
 use Rattle.convert.proofs.Outcomes.{done-with, refused-with, served-allowed}
 use Rattle.convert.proofs.convert.Goals as goal

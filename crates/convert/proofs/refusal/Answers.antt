@@ -1,5 +1,4 @@
 -- convert::refusal meets its contract, by its tests in their order.
-use borrow.Author.Rules.{rules}
 use Rattle.convert.proofs.Outcomes.{not-refused, refused-1, refused-13, refused-2, refused-8}
 use Rattle.convert.proofs.refusal.Goals as goal
 

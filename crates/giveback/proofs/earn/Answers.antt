@@ -1,6 +1,5 @@
 -- giveback::earn meets its contract, by its text.
 use Rattle.giveback.specs.GiveBack.{earned}
-use borrow.Author.Rules.{rules}
 use Rattle.giveback.proofs.earn.Goals as goal
 
 pub returns : goal.returns

@@ -1,6 +1,5 @@
 -- giveback::give_back meets its contract, by its text.
 use Rattle.giveback.specs.GiveBack.{give_back}
-use borrow.Author.Rules.{rules}
 use Rattle.giveback.proofs.give_back.Goals as goal
 
 pub returns : goal.returns

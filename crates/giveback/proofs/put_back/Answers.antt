@@ -1,7 +1,6 @@
 -- giveback::put_back meets its contract, by the size.
 use Rattle.giveback.specs.GiveBack.{put_back}
 use Rattle.words.specs.Choice.{if<-yes, if<-no}
-use borrow.Author.Rules.{rules}
 use Rattle.giveback.proofs.put_back.Goals as goal
 
 pub returns-then-z-lt-LARGE : goal.returns-then-z-lt-LARGE

@@ -1,6 +1,5 @@
 -- grant::carry_out meets its contract, by what was chosen.
 use Rattle.grant.specs.Take.{carry_out}
-use borrow.Author.Rules.{rules}
 use Rattle.grant.proofs.carry_out.Goals as goal
 
 pub returns-in-FirstOfBin : goal.returns-in-FirstOfBin

@@ -1,6 +1,5 @@
 -- grant::take meets its contract, by its text.
 use Rattle.grant.specs.Take.{take}
-use borrow.Author.Rules.{rules}
 use Rattle.grant.proofs.take.Goals as goal
 
 pub returns : goal.returns

@@ -1,6 +1,5 @@
 -- `false_block_ok`: a failing test refuses, whatever stands before it; the last ones decide.
 use native.Mathlib.Omega.{arith}
-use borrow.Author.Rules.{rules}
 use mathlib.Core.Path.{◌∙◌}
 use Rattle.header.specs.Header.{false_tests}
 use Rattle.guards.proofs.Guards.{off, pass-no}

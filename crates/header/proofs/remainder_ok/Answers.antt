@@ -1,6 +1,5 @@
 -- `remainder_ok`: a failing test refuses, whatever stands before it; the last one decides.
 use native.Mathlib.Omega.{arith}
-use borrow.Author.Rules.{rules}
 use Rattle.header.specs.Header.{rest_between}
 use Rattle.guards.proofs.Guards.{pass-no}
 use Rattle.header.proofs.Laws.{rest-is}

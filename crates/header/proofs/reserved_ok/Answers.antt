@@ -1,5 +1,4 @@
 -- `reserved_ok`, by the level word.
-use borrow.Author.Rules.{rules}
 use Rattle.header.proofs.Laws.{reserved-none, reserved-one, reserved-two}
 use Rattle.header.proofs.reserved_ok.Goals as goal
 

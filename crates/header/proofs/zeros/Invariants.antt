@@ -1,6 +1,5 @@
 -- `zeros`: the words so far together, and what is left, decide; a place stays below 2^64, since words and steps are numbers of 32 bits.
-use borrow.Author.Rules.{rules}
-use Rattle.header.proofs.Laws.{Clearing, clearing, is-cleared, clears}
+use Rattle.header.proofs.Laws.{Clearing}
 use Rattle.header.proofs.zeros.Given as goal
 
 abbrev pub invariant-loop-left : goal.invariant-loop-left

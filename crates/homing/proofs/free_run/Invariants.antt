@@ -1,8 +1,6 @@
 -- homing::free_run meets its contract: the invariant says that the whole run is the run from here.
 use Prim.Native.Nat.{◌-◌}
-use borrow.Author.Rules.{rules}
-use native.Mathlib.Omega.{arith}
-use Rattle.homing.proofs.Running.{Running, begins, ends, goes_on, held-there, nearer, stuck}
+use Rattle.homing.proofs.Running.{Running}
 use Rattle.homing.proofs.free_run.Given as goal
 
 abbrev pub invariant-loop-end : goal.invariant-loop-end

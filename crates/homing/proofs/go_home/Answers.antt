@@ -1,7 +1,5 @@
 -- homing::go_home meets its contract, by its steps.
-use borrow.Author.Rules.{rules}
 use lib.ListN.{length}
-use mathlib.Core.Logic.{⊎_elim}
 use mathlib.Core.Path.{◌∙◌, ap}
 use Rattle.homing.proofs.Home.{home-is, lists-left, lists-pruned}
 use Rattle.homing.specs.Homing.{homes}
@@ -16,14 +14,12 @@ shape_of-pool c =
 
 pub returns : goal.returns
 unfolding homes
-returns c =
-    (
-      home-is _ _ _ c.free_run-run.ensures
-          (elim c.if-run-ne0.branch [
-            then-run-ne0 w ↦ lists-pruned _ _ w.if-run-ne0.true (w.pool-is ∙ w.prune_all.ensures)
-          | else-run-ne0 w ↦ lists-left _ _ w.if-run-ne0.false w.pool-is
-          ])
-          c.get32-start.ensures c.put32.ensures c.minus.ensures c.free_head.ensures c.put32-2.ensures,
-      ap (λ (r : Run). r.blocks) c.free_run-run.ensures,
-    )
-
+returns c = (
+  home-is _ _ _ c.free_run-run.ensures
+      (elim c.if-run-ne0.branch [
+        | then-run-ne0 w ↦ lists-pruned _ _ w.if-run-ne0.true (w.pool-is ∙ w.prune_all.ensures)
+        | else-run-ne0 w ↦ lists-left _ _ w.if-run-ne0.false w.pool-is
+      ])
+      c.get32-start.ensures c.put32.ensures c.minus.ensures c.free_head.ensures c.put32-2.ensures,
+  ap (λ (r : Run). r.blocks) c.free_run-run.ensures,
+)

@@ -1,5 +1,4 @@
 -- homing::lead meets its contract: to store what is read there changes nothing.
-use borrow.Author.Rules.{rules}
 use mathlib.Core.Path.{◌∙◌, ap, sym}
 use native.Mathlib.Omega.{arith}
 use Rattle.words.proofs.Laws.{put_word}

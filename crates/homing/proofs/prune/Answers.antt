@@ -1,8 +1,6 @@
 -- homing::prune meets its contract: the invariant says that the whole list is the list from here.
-use borrow.Author.Rules.{rules}
-use mathlib.Core.Logic.{⊎_elim}
 use mathlib.Core.Path.{◌∙◌}
-use Rattle.homing.proofs.Pruning.{Pruning, begins, ends, leaves, out, stays}
+use Rattle.homing.proofs.Pruning.{begins, ends, leaves, out, stays}
 use Rattle.homing.proofs.prune.Goals as goal
 use Rattle.homing.proofs.prune.Goals.{then-edge-q, else-edge-q}
 
@@ -15,9 +13,9 @@ returns-then-q-eq0 c = ends c.loop-left.invariant c.loop-left-test.true c.if-q-e
 pub loop-left-preserved : goal.loop-left-preserved
 loop-left-preserved c =
     elim c.if-edge-q.branch [
-      then-edge-q w ↦ stays c.loop-left.invariant c.loop-left-test.true c.if-q-eq0.false c.field-next.ensures w.if-edge-q.true
+      | then-edge-q w ↦ stays c.loop-left.invariant c.loop-left-test.true c.if-q-eq0.false c.field-next.ensures w.if-edge-q.true
           (w.pool-is ∙ w.lead-then-edge-q.ensures) (w.at-is ∙ w.plus-at.ensures)
-    | else-edge-q w ↦ leaves c.loop-left.invariant c.loop-left-test.true c.if-q-eq0.false c.field-next.ensures w.if-edge-q.false
+      | else-edge-q w ↦ leaves c.loop-left.invariant c.loop-left-test.true c.if-q-eq0.false c.field-next.ensures w.if-edge-q.false
           w.pool-is w.at-is
     ]
 

@@ -1,8 +1,5 @@
 -- homing::prune meets its contract: the invariant says that the whole list is the list from here.
-use borrow.Author.Rules.{rules}
-use mathlib.Core.Logic.{⊎_elim}
-use mathlib.Core.Path.{◌∙◌}
-use Rattle.homing.proofs.Pruning.{Pruning, begins, ends, leaves, out, stays}
+use Rattle.homing.proofs.Pruning.{Pruning}
 use Rattle.homing.proofs.prune.Given as goal
 
 abbrev pub invariant-loop-left : goal.invariant-loop-left

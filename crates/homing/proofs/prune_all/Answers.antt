@@ -1,8 +1,5 @@
 -- homing::prune_all meets its contract: the invariant says that all eight lists are those from here.
-use Prim.Native.Nat.{◌-◌}
-use borrow.Author.Rules.{rules}
-use Rattle.homing.proofs.Bins.{Bins, begins, done, goes_on}
-use Rattle.paper.specs.Layout.{false_block}
+use Rattle.homing.proofs.Bins.{begins, done, goes_on}
 use Rattle.homing.proofs.prune_all.Goals as goal
 
 pub loop-first-init : goal.loop-first-init

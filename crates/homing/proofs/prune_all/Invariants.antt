@@ -1,7 +1,6 @@
 -- homing::prune_all meets its contract: the invariant says that all eight lists are those from here.
 use Prim.Native.Nat.{◌-◌}
-use borrow.Author.Rules.{rules}
-use Rattle.homing.proofs.Bins.{Bins, begins, done, goes_on}
+use Rattle.homing.proofs.Bins.{Bins}
 use Rattle.paper.specs.Layout.{false_block}
 use Rattle.homing.proofs.prune_all.Given as goal
 

@@ -1,5 +1,4 @@
 -- `edge_held` asks what its model asks: whether E is the pool's end, and else the head there.
-use borrow.Author.Rules.{rules}
 use Rattle.inspect.proofs.AtEdge.{asks-end, asks-head}
 use Rattle.inspect.proofs.edge_held.Goals as goal
 

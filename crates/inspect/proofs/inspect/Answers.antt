@@ -1,6 +1,5 @@
 -- `inspect`: each test that fails refuses; where all before the lists have passed, the lists decide.
 use native.Mathlib.Omega.{arith}
-use borrow.Author.Rules.{rules}
 use Rattle.inspect.proofs.Whole.{not_allowed, rest-bad, false-bad, run-bad, free-word-bad, lists-decide, gap, short}
 use Rattle.inspect.proofs.inspect.Goals as goal
 

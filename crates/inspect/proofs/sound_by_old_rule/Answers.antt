@@ -1,6 +1,5 @@
 -- `sound_by_old_rule` answers as `inspect` does, and that is exactly whether the pool is sound by the old rule.
 use native.Mathlib.Omega.{arith}
-use borrow.Author.Rules.{rules}
 use Rattle.inspect.proofs.Decide.{old-inspection}
 use Rattle.inspect.proofs.sound_by_old_rule.Goals as goal
 

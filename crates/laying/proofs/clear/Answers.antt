@@ -1,7 +1,5 @@
 -- laying::clear meets its contract: the words are cleared from the front.
-use Prim.Native.Nat.{◌-◌}
-use Rattle.laying.proofs.Clearing.{Clearing, begins, one_more, all}
-use borrow.Author.Rules.{rules}
+use Rattle.laying.proofs.Clearing.{begins, one_more, all}
 use Rattle.laying.proofs.clear.Goals as goal
 
 pub loop-k-init : goal.loop-k-init

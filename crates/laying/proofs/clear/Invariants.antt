@@ -1,7 +1,6 @@
 -- laying::clear meets its contract: the words are cleared from the front.
 use Prim.Native.Nat.{◌-◌}
-use Rattle.laying.proofs.Clearing.{Clearing, begins, one_more, all}
-use borrow.Author.Rules.{rules}
+use Rattle.laying.proofs.Clearing.{Clearing}
 use Rattle.laying.proofs.clear.Given as goal
 
 abbrev pub invariant-loop-k : goal.invariant-loop-k

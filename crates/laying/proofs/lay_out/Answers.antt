@@ -1,6 +1,5 @@
 -- laying::lay_out meets its contract, by its text.
 use Rattle.laying.specs.LayingOut.{lay_out}
-use borrow.Author.Rules.{rules}
 use Rattle.laying.proofs.lay_out.Goals as goal
 
 pub returns : goal.returns

@@ -1,6 +1,5 @@
 -- laying::top_of meets its contract, by its tests.
 use mathlib.Core.Path.{sym, ◌∙◌}
-use borrow.Author.Rules.{rules}
 use Rattle.paper.specs.Fresh.{layout_top}
 use Rattle.words.specs.Choice.{if=-yes, if=-no}
 use Rattle.laying.proofs.top_of.Goals as goal

@@ -1,5 +1,4 @@
 -- lines::answer meets its contract: each kind of answer prints its number and value.
-use borrow.Author.Rules.{rules}
 use Rattle.lines.proofs.answer.Goals as goal
 
 pub returns-in-Done : goal.returns-in-Done

@@ -1,5 +1,4 @@
 -- lines::begin meets its contract: the numeral and the two bytes after it, put one after the other.
-use borrow.Author.Rules.{rules}
 use Rattle.text.specs.Page.{put}
 use Rattle.text.proofs.Page.{put-append}
 use Rattle.lines.specs.Lines.{begin_of}

@@ -1,6 +1,5 @@
 -- lines::figures meets its contract: each kind of tally prints its numbers.
 use native.Mathlib.Omega.{arith}
-use borrow.Author.Rules.{rules}
 use Rattle.lines.proofs.Print.{figures-line, line-short}
 use Rattle.lines.proofs.figures.Goals as goal
 

@@ -1,6 +1,5 @@
 -- lines::line meets its contract: the line is put piece by piece, and its numbers have at most ten digits.
 use native.Mathlib.Omega.{arith}
-use borrow.Author.Rules.{rules}
 use Rattle.lines.proofs.Print.{pieces, line-short}
 use Rattle.lines.proofs.line.Goals as goal
 

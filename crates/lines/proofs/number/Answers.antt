@@ -1,5 +1,4 @@
 -- lines::number meets its contract: a space, and the numeral after it.
-use borrow.Author.Rules.{rules}
 use Rattle.text.specs.Page.{put}
 use Rattle.lines.proofs.number.Goals as goal
 

@@ -1,5 +1,4 @@
 -- lines::seven meets its contract: the figures are put one after the other.
-use borrow.Author.Rules.{rules}
 use Rattle.lines.proofs.Print.{pieces}
 use Rattle.lines.proofs.seven.Goals as goal
 

@@ -1,5 +1,4 @@
 -- `all_listed`: the small bins, then the false block's index words, then the chain.
-use borrow.Author.Rules.{rules}
 use Rattle.lists.proofs.LargeBins.{lists-astray, lists-lost, lists-on}
 use Rattle.lists.proofs.all_listed.Goals as goal
 

@@ -2,8 +2,7 @@
 use mathlib.Core.Path.{ap, ◌∙◌}
 use borrow.Author.Rules.{rules}
 use Rattle.heads.specs.Links.{followed}
-use Rattle.lists.specs.Lists.{next_large, large_tests}
-use Rattle.lists.proofs.Following.{Going, start, is-done, is-short, is-failed, goes_on}
+use Rattle.lists.proofs.Following.{start, is-done, is-short, is-failed, goes_on}
 use Rattle.lists.proofs.follow_large.Goals as goal
 
 pub loop-q-init : goal.loop-q-init

@@ -1,9 +1,6 @@
 -- `follow_large`: the invariant says that the whole list is the list from here.
-use mathlib.Core.Path.{ap, ◌∙◌}
-use borrow.Author.Rules.{rules}
-use Rattle.heads.specs.Links.{followed}
 use Rattle.lists.specs.Lists.{next_large, large_tests}
-use Rattle.lists.proofs.Following.{Going, start, is-done, is-short, is-failed, goes_on}
+use Rattle.lists.proofs.Following.{Going}
 use Rattle.lists.proofs.follow_large.Given as goal
 
 abbrev pub invariant-loop-q : goal.invariant-loop-q

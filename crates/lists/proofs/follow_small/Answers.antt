@@ -1,8 +1,6 @@
 -- `follow_small`: the invariant says that the whole list is the list from here; no test asks for the member before.
-use Prim.Native.Nat.{ℕ}
 use borrow.Author.Rules.{rules}
-use Rattle.lists.specs.Lists.{next_small, small_tests}
-use Rattle.lists.proofs.Following.{Going, start, is-done, is-short, is-failed, goes_on}
+use Rattle.lists.proofs.Following.{start, is-done, is-short, is-failed, goes_on}
 use Rattle.lists.proofs.follow_small.Goals as goal
 
 pub loop-q-init : goal.loop-q-init
@@ -15,12 +13,11 @@ pub returns-then-not-small_ok : goal.returns-then-not-small_ok
 returns-then-not-small_ok c = is-failed c.loop-q.invariant.1 c.loop-q-test.true c.small_ok.ensures c.if-not-small_ok.true-raw
 
 pub loop-q-preserved : goal.loop-q-preserved
-loop-q-preserved c =
-    (
-      _,
-      goes_on c.loop-q.invariant.1 c.loop-q-test.true c.if-left-eq0.false c.small_ok.ensures
-          c.if-not-small_ok.false-raw c.unmark.ensures (search rules) c.field-q.ensures,
-    )
+loop-q-preserved c = (
+  _,
+  goes_on c.loop-q.invariant.1 c.loop-q-test.true c.if-left-eq0.false c.small_ok.ensures
+      c.if-not-small_ok.false-raw c.unmark.ensures (search rules) c.field-q.ensures,
+)
 
 pub returns : goal.returns
 returns c = is-done c.loop-q.invariant.1 c.loop-q-test.false

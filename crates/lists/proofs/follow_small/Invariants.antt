@@ -1,8 +1,7 @@
 -- `follow_small`: the invariant says that the whole list is the list from here; no test asks for the member before.
 use Prim.Native.Nat.{ℕ}
-use borrow.Author.Rules.{rules}
 use Rattle.lists.specs.Lists.{next_small, small_tests}
-use Rattle.lists.proofs.Following.{Going, start, is-done, is-short, is-failed, goes_on}
+use Rattle.lists.proofs.Following.{Going}
 use Rattle.lists.proofs.follow_small.Given as goal
 
 abbrev pub invariant-loop-q : goal.invariant-loop-q

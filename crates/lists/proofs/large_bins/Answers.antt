@@ -1,6 +1,6 @@
 -- `large_bins`: the invariant says that the whole chain is the chain from here.
 use borrow.Author.Rules.{rules}
-use Rattle.lists.proofs.LargeBins.{Chained, bin-less, chain-bad, chain-lost, chain-on, chain-start, ended-decides, marks-left}
+use Rattle.lists.proofs.LargeBins.{bin-less, chain-bad, chain-lost, chain-on, chain-start, ended-decides, marks-left}
 use Rattle.lists.proofs.large_bins.Goals as goal
 
 -- in what follows d is the place where the first block's size was read, and l where its list was followed

@@ -1,6 +1,5 @@
 -- `large_bins`: the invariant says that the whole chain is the chain from here.
-use borrow.Author.Rules.{rules}
-use Rattle.lists.proofs.LargeBins.{Chained, bin-less, chain-bad, chain-lost, chain-on, chain-start, ended-decides, marks-left}
+use Rattle.lists.proofs.LargeBins.{Chained}
 use Rattle.lists.proofs.large_bins.Given as goal
 
 abbrev pub invariant-loop-f : goal.invariant-loop-f

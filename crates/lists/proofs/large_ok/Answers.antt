@@ -1,6 +1,5 @@
 -- `large_ok`: a failing test refuses; the last one decides.
 use mathlib.Core.Path.{sym, ◌∙◌}
-use borrow.Author.Rules.{rules}
 use Rattle.guards.proofs.Guards.{pass-no}
 use Rattle.lists.specs.Lists.{asked, large_tests}
 use Rattle.marks.specs.MarkSets.{bit_marks}

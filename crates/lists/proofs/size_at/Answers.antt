@@ -1,5 +1,4 @@
 -- `size_at`: the size in the word that was read.
-use borrow.Author.Rules.{rules}
 use mathlib.Core.Path.{ap, ◌∙◌}
 use Prim.Native.Nat.{ℕ}
 use Rattle.heads.specs.Heads.{size_of}

@@ -1,7 +1,6 @@
 -- `small_bins`: the invariant says that all eight bins are the bins from here.
 use Prim.Native.Nat.{◌-◌}
-use borrow.Author.Rules.{rules}
-use Rattle.lists.proofs.SmallBins.{Bins, bins-start, bins-done, bins-lost, bins-on}
+use Rattle.lists.proofs.SmallBins.{Bins}
 use Rattle.paper.specs.Layout.{large}
 use Rattle.lists.proofs.small_bins.Given as goal
 

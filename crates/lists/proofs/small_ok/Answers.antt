@@ -1,5 +1,4 @@
 -- `small_ok`: without a mark it refuses; with one the head decides.
-use borrow.Author.Rules.{rules}
 use Rattle.lists.specs.Lists.{small_tests}
 use Rattle.lists.proofs.Members.{small_is, unmarked}
 use Rattle.lists.proofs.small_ok.Goals as goal

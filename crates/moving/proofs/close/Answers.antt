@@ -1,9 +1,7 @@
 -- moving::close meets its contract: the invariant says that all levels are the levels from here.
-use Prim.Native.Nat.{◌-◌}
-use borrow.Author.Rules.{rules}
 use mathlib.Core.Path.{refl}
 use native.Mathlib.Omega.{arith}
-use Rattle.moving.proofs.Levels.{Closing, closing, closes, all_closed}
+use Rattle.moving.proofs.Levels.{closing, closes, all_closed}
 use Rattle.moving.proofs.close.Goals as goal
 
 pub loop-level-init : goal.loop-level-init

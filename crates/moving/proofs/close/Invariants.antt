@@ -1,9 +1,6 @@
 -- moving::close meets its contract: the invariant says that all levels are the levels from here.
 use Prim.Native.Nat.{◌-◌}
-use borrow.Author.Rules.{rules}
-use mathlib.Core.Path.{refl}
-use native.Mathlib.Omega.{arith}
-use Rattle.moving.proofs.Levels.{Closing, closing, closes, all_closed}
+use Rattle.moving.proofs.Levels.{Closing}
 use Rattle.moving.proofs.close.Given as goal
 
 abbrev pub invariant-loop-level : goal.invariant-loop-level

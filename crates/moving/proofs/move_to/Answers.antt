@@ -1,5 +1,4 @@
 -- moving::move_to meets its contract, by its three steps.
-use borrow.Author.Rules.{rules}
 use Rattle.moving.proofs.Passing.{all_moved}
 use Rattle.moving.proofs.move_to.Goals as goal
 

@@ -1,9 +1,7 @@
 -- moving::pass meets its contract. The invariant: the whole pass is the pass from here; the measure: how far the sizes may still rise.
-use Prim.Native.Nat.{◌-◌}
 use borrow.Author.Rules.{rules}
 use native.Mathlib.Omega.{arith}
-use Rattle.moving.proofs.Passing.{Passing, begins, goes_on, no-rise, passed-all}
-use Rattle.moving.specs.Move.{moving, sizes}
+use Rattle.moving.proofs.Passing.{begins, goes_on, no-rise, passed-all}
 use Rattle.moving.proofs.pass.Goals as goal
 
 pub loop-f-init : goal.loop-f-init

@@ -1,8 +1,6 @@
 -- moving::pass meets its contract. The invariant: the whole pass is the pass from here; the measure: how far the sizes may still rise.
 use Prim.Native.Nat.{◌-◌}
-use borrow.Author.Rules.{rules}
-use native.Mathlib.Omega.{arith}
-use Rattle.moving.proofs.Passing.{Passing, begins, goes_on, no-rise, passed-all}
+use Rattle.moving.proofs.Passing.{Passing}
 use Rattle.moving.specs.Move.{moving, sizes}
 use Rattle.moving.proofs.pass.Given as goal
 

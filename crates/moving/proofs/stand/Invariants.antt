@@ -1,9 +1,6 @@
 -- moving::stand meets its contract: the invariant says that all levels are the levels from here.
 use Prim.Native.Nat.{◌-◌, suc}
-use borrow.Author.Rules.{rules}
-use mathlib.Core.Path.{◌∙◌}
-use native.Mathlib.Omega.{arith}
-use Rattle.moving.proofs.Levels.{Climbing, climbing, climbs, climbed, too-high}
+use Rattle.moving.proofs.Levels.{Climbing}
 use Rattle.moving.specs.Move.{moving}
 use Rattle.moving.proofs.stand.Given as goal
 

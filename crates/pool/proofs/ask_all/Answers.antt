@@ -7,7 +7,6 @@ use Rattle.reading.proofs.Asked.{refused, served}
 use Rattle.serving.proofs.AskAllServes.{all-held-serves}
 use Rattle.serving.proofs.AskServes.{ask-serves}
 use Rattle.words.specs.Choice.{if=-no, if=-yes, when-no, when-yes}
-use borrow.Author.Rules.{rules}
 use borrow.Author.Tests.{not-false, not-true}
 use mathlib.Core.Path.{ap, sym, ◌∙◌}
 use native.Mathlib.Omega.{arith}

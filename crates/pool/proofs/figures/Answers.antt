@@ -3,7 +3,6 @@ use Rattle.pool.specs.Calls as call
 use Rattle.reading.proofs.Asked.{refused, served}
 use Rattle.serving.proofs.CountServes.{figures-serve}
 use Rattle.paper.specs.declared.Tally.TheVariants.{Counted}
-use borrow.Author.Rules.{rules}
 use mathlib.Core.Path.{ap, sym, ◌∙◌}
 use Rattle.pool.proofs.figures.Goals as goal
 

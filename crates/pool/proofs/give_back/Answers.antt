@@ -2,7 +2,6 @@
 use Rattle.pool.specs.Calls as call
 use Rattle.reading.proofs.Asked.{refused, served}
 use Rattle.serving.proofs.BackServes.{give-back-serves}
-use borrow.Author.Rules.{rules}
 use mathlib.Core.Path.{sym, ◌∙◌}
 use Rattle.pool.proofs.give_back.Goals as goal
 

@@ -1,7 +1,6 @@
 -- pool::inspect meets its contract: refused by the reading, or its length.
 use Rattle.pool.specs.Calls as call
 use Rattle.reading.proofs.Asked.{refused, served, served-allowed}
-use borrow.Author.Rules.{rules}
 use mathlib.Core.Path.{refl, sym}
 use native.Mathlib.Omega.{arith}
 use Rattle.pool.proofs.inspect.Goals as goal

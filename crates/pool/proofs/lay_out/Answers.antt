@@ -4,7 +4,6 @@ use Rattle.paper.proofs.reads.Allowed.{allowed-inv}
 use Rattle.paper.specs.Calls.{laying_out, lay_out_call}
 use Rattle.pool.specs.Calls as call
 use Rattle.words.specs.Choice.{if=-no, if=-yes, when-yes, when-no}
-use borrow.Author.Rules.{rules}
 use borrow.Author.Tests.{not-true, not-false}
 use mathlib.Core.Path.{sym, ◌∙◌}
 use native.Mathlib.Omega.{arith}

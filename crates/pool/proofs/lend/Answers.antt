@@ -1,5 +1,4 @@
 -- pool::lend meets its contract: the range between the bounds is the part.
-use borrow.Author.Rules.{rules}
 use mathlib.Core.Path.{refl}
 use Rattle.pool.proofs.Lent.{lent-part}
 use Rattle.pool.proofs.lend.Goals as goal

@@ -1,5 +1,4 @@
 -- pool::lend_mut meets its contract: the range between the bounds is the part.
-use borrow.Author.Rules.{rules}
 use mathlib.Core.Path.{refl}
 use Rattle.pool.proofs.Lent.{lent-mut-part}
 use Rattle.pool.proofs.lend_mut.Goals as goal

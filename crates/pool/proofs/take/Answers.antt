@@ -2,7 +2,6 @@
 use Rattle.pool.specs.Calls as call
 use Rattle.reading.proofs.Asked.{refused, served}
 use Rattle.serving.proofs.TakeServes.{take-serves}
-use borrow.Author.Rules.{rules}
 use mathlib.Core.Path.{sym, ◌∙◌}
 use Rattle.pool.proofs.take.Goals as goal
 

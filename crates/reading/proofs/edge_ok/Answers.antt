@@ -1,5 +1,4 @@
 -- reading::edge_ok meets its contract: by the old rule nothing is asked.
-use borrow.Author.Rules.{rules}
 use Rattle.reading.proofs.Reasons.{edge-asked, edge-passed-on}
 use Rattle.reading.proofs.edge_ok.Goals as goal
 

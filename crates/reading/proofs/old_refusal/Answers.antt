@@ -1,5 +1,4 @@
 -- reading::old_refusal meets its contract: it asks by the old rule.
-use borrow.Author.Rules.{rules}
 use Rattle.reading.specs.Read.{why}
 use Rattle.reading.proofs.old_refusal.Goals as goal
 

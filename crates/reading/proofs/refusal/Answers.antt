@@ -1,5 +1,4 @@
 -- reading::refusal meets its contract: it asks by the rule in force.
-use borrow.Author.Rules.{rules}
 use Rattle.reading.specs.Read.{why}
 use Rattle.reading.proofs.refusal.Goals as goal
 

@@ -1,5 +1,4 @@
 -- reading::why meets its contract, by what the three tests say of the pool.
-use borrow.Author.Rules.{rules}
 use borrow.Author.Tests.{not-true, not-false}
 use mathlib.Core.Path.{sym, ◌∙◌}
 use native.Mathlib.Omega.{arith}

@@ -2,7 +2,6 @@
 use mathlib.Core.Path.{refl, sym}
 use Prim.Native.Nat.{ℕ}
 use native.Mathlib.Omega.{arith}
-use borrow.Author.Rules.{rules}
 use Rattle.paper.specs.Layout.{large}
 use Rattle.words.specs.Choice.{if<-no, if<-yes}
 use Rattle.runs.specs.Runs.{fit_size}

@@ -1,7 +1,6 @@
 -- `free_ok`: only a large block has a footer to compare.
 use mathlib.Core.Path.{sym, ◌∙◌}
 use native.Mathlib.Omega.{arith}
-use borrow.Author.Rules.{rules}
 use Rattle.guards.proofs.Guards.{pass-no}
 use Rattle.runs.specs.Runs.{free_at}
 use Rattle.runs.proofs.Laws.{free-large, free-small, not_free}

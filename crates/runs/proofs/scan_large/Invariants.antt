@@ -1,12 +1,8 @@
 -- `scan_large`: the invariant says that the whole walk is the walk from here. Each way out and each way on has its law.
 -- In a turn `head` is the place where the head's word was read and its size taken, `fit` where the size has passed.
-use mathlib.Core.Path.{refl}
 use Prim.Native.Nat.{◌-◌}
-use native.Mathlib.Omega.{arith}
-use borrow.Author.Rules.{rules}
-use borrow.Author.Tests.{not-false, not-true}
 use Rattle.paper.specs.Layout.{blocks_at}
-use Rattle.runs.proofs.Laws.{Scanning, begin, fit-facts, scan-done, scan-unfit, scan-unfree, scan-held, scan-free}
+use Rattle.runs.proofs.Laws.{Scanning}
 use Rattle.runs.proofs.scan_large.Given as goal
 
 abbrev pub invariant-loop-p : goal.invariant-loop-p

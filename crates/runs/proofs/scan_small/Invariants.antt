@@ -1,11 +1,8 @@
 -- `scan_small`: the invariant says that the whole walk is the walk from here, with P due. Each way out and each way on has its law.
 -- In a turn `head` is the place where the head's word was read and its size taken, `fit` where the size has passed.
-use mathlib.Core.Path.{refl, sym, ◌∙◌}
 use Prim.Native.Nat.{◌-◌}
-use native.Mathlib.Omega.{arith}
-use borrow.Author.Rules.{rules}
 use Rattle.heads.specs.Heads.{held_flags}
-use Rattle.runs.proofs.Laws.{Scanning, begin, fit-facts, free-small, is-small, not_free, scan-done, scan-unfit, scan-unfree, scan-held, scan-free}
+use Rattle.runs.proofs.Laws.{Scanning}
 use Rattle.runs.proofs.scan_small.Given as goal
 
 abbrev pub invariant-loop-p : goal.invariant-loop-p

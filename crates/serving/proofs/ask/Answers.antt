@@ -1,6 +1,5 @@
 -- serving::ask meets its contract, by what is held there.
 use Rattle.serving.specs.Models as model
-use borrow.Author.Rules.{rules}
 use Rattle.serving.proofs.ask.Goals as goal
 
 pub returns-in_default : goal.returns-in_default

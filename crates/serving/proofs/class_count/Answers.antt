@@ -5,7 +5,6 @@ use mathlib.Core.Logic.{◌≢◌}
 use mathlib.Core.Path.{◌≡◌}
 use native.Mathlib.Omega.{arith}
 use lib.ListN.{length}
-use borrow.Author.Rules.{rules}
 use Rattle.serving.proofs.class_count.Goals as goal
 
 pub returns-then-counts-ne53 : goal.returns-then-counts-ne53

@@ -1,6 +1,5 @@
 -- serving::give_back meets its contract, by what is held there.
 use Rattle.serving.specs.Models as model
-use borrow.Author.Rules.{rules}
 use Rattle.serving.proofs.give_back.Goals as goal
 
 pub returns-in_default : goal.returns-in_default

@@ -1,13 +1,6 @@
 -- serving::held_there meets its contract, by the block that was found.
-use mathlib.Core.List.{[], ◌∷◌}
-use mathlib.Core.Logic.{◌≢◌, inl, inr}
 use mathlib.Core.Path.{◌≡◌, refl}
-use Prim.Native.Nat.{ℕ, ◌+◌}
-use native.Mathlib.Omega.{arith}
-use denote.Enum.Declared.{tag_of}
-use types.Run.{OneOf}
-use borrow.Author.Rules.{rules}
-use Rattle.paper.specs.contracts.Found.{the_type}
+use Prim.Native.Nat.{ℕ}
 use Rattle.paper.specs.declared.Answer.TheVariants.{Refused}
 use Rattle.paper.specs.declared.Found.{Found}
 use Rattle.paper.specs.declared.Found.TheVariants.{Held, Free, Remainder, Nothing}

@@ -1,11 +1,8 @@
 -- tape::run meets its contract: the loop follows the run of the tape record by record, and the lines fit.
 use mathlib.Core.Path.{sym, ◌∙◌}
-use Prim.Native.Nat.{◌-◌}
 use native.Mathlib.Omega.{arith}
-use lib.ListN.{length}
-use borrow.Author.Rules.{rules}
 use Rattle.records.proofs.Records.{onward}
-use Rattle.tape.proofs.Going.{Going, too_long, start, ends, stops, goes_on}
+use Rattle.tape.proofs.Going.{too_long, start, ends, stops, goes_on}
 use Rattle.tape.proofs.run.Goals as goal
 
 pub returns-then-tape-gt-LONGEST : goal.returns-then-tape-gt-LONGEST

@@ -1,7 +1,6 @@
 -- walk::pool_end meets its contract, by the test on the length.
 use Rattle.walk.specs.Blocks.{pool_end}
 use Rattle.words.specs.Choice.{if<-yes, if<-no}
-use borrow.Author.Rules.{rules}
 use Rattle.walk.proofs.pool_end.Goals as goal
 
 pub returns-then-n-lt65536 : goal.returns-then-n-lt65536

@@ -1,6 +1,5 @@
 -- bank::asked meets its contract, by what asking about the whole bank answers.
 use Rattle.bank.proofs.AskedOnce.{asks-done, asks-refused}
-use borrow.Author.Rules.{rules}
 use mathlib.Core.Path.{sym, ◌∙◌}
 use Rattle.bank.proofs.naming.asked.Goals as goal
 

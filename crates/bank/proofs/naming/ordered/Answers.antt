@@ -1,7 +1,6 @@
 -- bank::ordered meets its contract, by the test.
 use Rattle.bank.specs.Asks.{ordering}
 use Rattle.words.specs.Choice.{if=-no, if=-yes}
-use borrow.Author.Rules.{rules}
 use mathlib.Core.Path.{sym, ◌∙◌}
 use Rattle.bank.proofs.naming.ordered.Goals as goal
 

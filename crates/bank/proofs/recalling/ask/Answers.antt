@@ -1,6 +1,5 @@
 -- bank::ask meets its contract, by the place that was found.
 use Rattle.bank.proofs.Finding.{asked-done, asked-refused, found-short}
-use borrow.Author.Rules.{rules}
 use native.Mathlib.Omega.{arith}
 use Rattle.bank.proofs.recalling.ask.Goals as goal
 

@@ -1,5 +1,4 @@
 -- bank::recalling::cut meets its contract: the range between the bounds is the part.
-use borrow.Author.Rules.{rules}
 use mathlib.Core.Path.{◌≡◌, refl, ap, ◌∙◌}
 use mathlib.Core.List.{List}
 use Prim.Native.Nat.{ℕ, ◌+◌}

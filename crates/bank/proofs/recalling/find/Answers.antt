@@ -4,7 +4,6 @@ use Rattle.bank.proofs.Finding.{finds-empty, finds-record, finds-refused, finds-
 use Rattle.bank.proofs.Outcomes.{passed-short}
 use Rattle.bank.proofs.Refusals.{nothing-refuses}
 use Rattle.bank.specs.Records.{record_in}
-use borrow.Author.Rules.{rules}
 use mathlib.Core.Path.{ap, ◌∙◌}
 use native.Mathlib.Omega.{arith}
 use Rattle.bank.proofs.recalling.find.Goals as goal

@@ -1,6 +1,5 @@
 -- bank::is_record meets its contract, by what the kind is.
 use Rattle.bank.proofs.RecordLaws.{is_known, is-unknown}
-use borrow.Author.Rules.{rules}
 use Rattle.bank.proofs.records.is_record.Goals as goal
 
 pub returns-in_default : goal.returns-in_default

@@ -1,6 +1,5 @@
 -- bank::record_in meets its contract, by the kind that the first byte says.
 use Rattle.bank.proofs.RecordLaws.{body-short, in-short, in-unknown, in_whole, none_in}
-use borrow.Author.Rules.{rules}
 use native.Mathlib.Omega.{arith}
 use Rattle.bank.proofs.records.record_in.Goals as goal
 

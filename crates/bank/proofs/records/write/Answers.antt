@@ -1,8 +1,5 @@
 -- bank::write meets its contract; a part that is too short is no part that the contract speaks of.
-use Prim.Native.Nat.{◌-◌}
-use Rattle.bank.proofs.Writing.{Writing, begins, ends, goes_on, same-long}
-use borrow.Author.Rules.{rules}
-use lib.ListN.{length}
+use Rattle.bank.proofs.Writing.{begins, ends, goes_on, same-long}
 use native.Mathlib.Omega.{arith}
 use Rattle.bank.proofs.records.write.Goals as goal
 

@@ -1,9 +1,7 @@
 -- bank::write meets its contract; a part that is too short is no part that the contract speaks of.
 use Prim.Native.Nat.{◌-◌}
-use Rattle.bank.proofs.Writing.{Writing, begins, ends, goes_on, same-long}
-use borrow.Author.Rules.{rules}
+use Rattle.bank.proofs.Writing.{Writing}
 use lib.ListN.{length}
-use native.Mathlib.Omega.{arith}
 use Rattle.bank.proofs.records.write.Given as goal
 
 abbrev pub invariant-loop-i : goal.invariant-loop-i

@@ -1,7 +1,5 @@
 -- bins::along meets its contract. The invariant: the whole walk is the walk from here; the measure: how far the sizes may still rise.
-use Prim.Native.Nat.{◌-◌}
-use Rattle.bins.proofs.Finding.{Finding, begins, at-the-stop, at-a-bin, at-no-rise, goes_on}
-use borrow.Author.Rules.{rules}
+use Rattle.bins.proofs.Finding.{begins, at-the-stop, at-a-bin, at-no-rise, goes_on}
 use Rattle.bins.proofs.chain.along.Goals as goal
 
 pub loop-first-init : goal.loop-first-init

@@ -1,6 +1,5 @@
 -- bins::down meets its contract. The invariant: what is found at the end is what is found from here.
-use Rattle.bins.proofs.Descent.{Descending, starts, one_down, there}
-use borrow.Author.Rules.{rules}
+use Rattle.bins.proofs.Descent.{Descending}
 use Rattle.bins.proofs.chain.down.Given as goal
 
 abbrev pub invariant-loop-level : goal.invariant-loop-level

@@ -1,6 +1,5 @@
 -- bins::empty meets its contract, by its text.
 use Rattle.bins.specs.Find.{empty}
-use borrow.Author.Rules.{rules}
 use Rattle.bins.proofs.chain.empty.Goals as goal
 
 pub returns : goal.returns

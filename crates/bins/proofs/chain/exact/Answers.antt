@@ -1,6 +1,5 @@
 -- bins::exact meets its contract, by its text.
 use Rattle.bins.specs.Find.{exact}
-use borrow.Author.Rules.{rules}
 use Rattle.bins.proofs.chain.exact.Goals as goal
 
 pub returns : goal.returns

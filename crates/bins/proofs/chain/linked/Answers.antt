@@ -1,6 +1,5 @@
 -- bins::linked meets its contract, by its text.
 use Rattle.bins.specs.Find.{linked_at}
-use borrow.Author.Rules.{rules}
 use Rattle.bins.proofs.chain.linked.Goals as goal
 
 pub returns : goal.returns

@@ -1,6 +1,5 @@
 -- bins::search meets its contract, by its text.
 use Rattle.bins.specs.Find.{search as search-of}
-use borrow.Author.Rules.{rules}
 use Rattle.bins.proofs.chain.search.Goals as goal
 
 pub returns : goal.returns

@@ -1,6 +1,5 @@
 -- bins::size_of meets its contract, by its text.
 use Rattle.bins.specs.Find.{size_at}
-use borrow.Author.Rules.{rules}
 use Rattle.bins.proofs.chain.size_of.Goals as goal
 
 pub returns : goal.returns

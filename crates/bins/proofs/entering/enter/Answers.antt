@@ -1,6 +1,5 @@
 -- bins::enter meets its contract, by its text.
 use Rattle.bins.specs.Enter.{enter}
-use borrow.Author.Rules.{rules}
 use Rattle.bins.proofs.entering.enter.Goals as goal
 
 pub returns : goal.returns

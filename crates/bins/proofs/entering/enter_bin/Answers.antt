@@ -1,7 +1,6 @@
 -- bins::enter_bin meets its contract, by the test on the bin that was found.
 use Rattle.bins.specs.Enter.{enter_at, enter_bin}
 use Rattle.words.specs.Choice.{if=-yes, if=-no}
-use borrow.Author.Rules.{rules}
 use Rattle.bins.proofs.entering.enter_bin.Goals as goal
 
 pub returns-then-bin-size : goal.returns-then-bin-size

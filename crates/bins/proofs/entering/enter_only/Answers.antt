@@ -1,6 +1,5 @@
 -- bins::enter_only meets its contract, by its text.
 use Rattle.bins.specs.Enter.{enter_only}
-use borrow.Author.Rules.{rules}
 use Rattle.bins.proofs.entering.enter_only.Goals as goal
 
 pub returns : goal.returns

@@ -1,7 +1,6 @@
 -- bins::enter_second meets its contract, by the test on the next block.
 use Rattle.bins.specs.Enter.{between, enter_second}
 use Rattle.words.specs.Choice.{if=-yes, if=-no}
-use borrow.Author.Rules.{rules}
 use mathlib.Core.Path.{sym, ◌∙◌}
 use Rattle.bins.proofs.entering.enter_second.Goals as goal
 

@@ -1,6 +1,5 @@
 -- bins::make_free meets its contract, by its text.
 use Rattle.bins.specs.Enter.{make_free}
-use borrow.Author.Rules.{rules}
 use Rattle.bins.proofs.entering.make_free.Goals as goal
 
 pub returns : goal.returns

@@ -1,7 +1,6 @@
 -- bins::after meets its contract, by the test on the old first block.
 use Rattle.bins.specs.Head.{after}
 use Rattle.words.specs.Choice.{if=-yes, if=-no}
-use borrow.Author.Rules.{rules}
 use mathlib.Core.Path.{sym, ◌∙◌}
 use Rattle.bins.proofs.heading.after.Goals as goal
 

@@ -1,8 +1,5 @@
 -- bins::rehead meets its contract. The invariant: the bytes at the end are those that come of relinking from here down.
-use Rattle.bins.proofs.Descent.{Reheading, begins, relinks-below, relinked-all}
-use Rattle.bins.specs.Head.{rehead}
-use borrow.Author.Rules.{rules}
-use mathlib.Core.Path.{◌∙◌}
+use Rattle.bins.proofs.Descent.{Reheading}
 use Rattle.bins.proofs.heading.rehead.Given as goal
 
 abbrev pub invariant-loop-level : goal.invariant-loop-level

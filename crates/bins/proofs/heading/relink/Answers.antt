@@ -1,7 +1,6 @@
 -- bins::relink meets its contract, by the test on the new first block.
 use Rattle.bins.specs.Head.{relink}
 use Rattle.words.specs.Choice.{if=-yes, if=-no}
-use borrow.Author.Rules.{rules}
 use Rattle.bins.proofs.heading.relink.Goals as goal
 
 pub returns-then-new-eq0 : goal.returns-then-new-eq0

@@ -1,8 +1,5 @@
 -- bins::keep meets its contract: the words are kept from the front.
-use Prim.Native.Nat.{◌-◌}
-use Rattle.bins.proofs.KeptWords.{Keeping, none_kept, one_kept, all-kept}
-use borrow.Author.Rules.{rules}
-use lib.ListN.{length}
+use Rattle.bins.proofs.KeptWords.{none_kept, one_kept, all-kept}
 use Rattle.bins.proofs.keeping.keep.Goals as goal
 
 pub loop-i-init : goal.loop-i-init

@@ -1,7 +1,6 @@
 -- bins::keep meets its contract: the words are kept from the front.
 use Prim.Native.Nat.{◌-◌}
-use Rattle.bins.proofs.KeptWords.{Keeping, none_kept, one_kept, all-kept}
-use borrow.Author.Rules.{rules}
+use Rattle.bins.proofs.KeptWords.{Keeping}
 use lib.ListN.{length}
 use Rattle.bins.proofs.keeping.keep.Given as goal
 

@@ -1,8 +1,5 @@
 -- bins::put_back meets its contract: the words are put back from the front.
-use Prim.Native.Nat.{◌-◌}
-use Rattle.bins.proofs.KeptWords.{PuttingBack, none-put, one-put, all-put}
-use borrow.Author.Rules.{rules}
-use lib.ListN.{length}
+use Rattle.bins.proofs.KeptWords.{none-put, one-put, all-put}
 use Rattle.bins.proofs.keeping.put_back.Goals as goal
 
 pub loop-i-init : goal.loop-i-init

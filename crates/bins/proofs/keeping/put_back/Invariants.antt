@@ -1,7 +1,6 @@
 -- bins::put_back meets its contract: the words are put back from the front.
 use Prim.Native.Nat.{◌-◌}
-use Rattle.bins.proofs.KeptWords.{PuttingBack, none-put, one-put, all-put}
-use borrow.Author.Rules.{rules}
+use Rattle.bins.proofs.KeptWords.{PuttingBack}
 use lib.ListN.{length}
 use Rattle.bins.proofs.keeping.put_back.Given as goal
 

@@ -1,7 +1,6 @@
 -- bins::leave meets its contract, by the test on the previous block.
 use Rattle.bins.specs.Leave.{leave}
 use Rattle.words.specs.Choice.{if=-yes, if=-no}
-use borrow.Author.Rules.{rules}
 use mathlib.Core.Path.{sym, ◌∙◌}
 use Rattle.bins.proofs.leaving.leave.Goals as goal
 

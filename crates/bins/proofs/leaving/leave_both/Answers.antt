@@ -2,7 +2,6 @@
 use Rattle.bins.proofs.KeptWords.{room, kept-part}
 use Rattle.bins.specs.Leave.{restored, leave_both}
 use Rattle.levels.proofs.Levels.{height-le}
-use borrow.Author.Rules.{rules}
 use Prim.Native.Nat.{◌≤◌}
 use lib.Seq.{length-take-le}
 use mathlib.Core.Path.{sym}

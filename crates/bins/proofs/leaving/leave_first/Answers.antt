@@ -2,7 +2,6 @@
 use Rattle.bins.specs.Leave.{leave_first}
 use Rattle.words.specs.Choice.{if=-yes, if=-no}
 use mathlib.Core.Path.{sym, ◌∙◌}
-use borrow.Author.Rules.{rules}
 use Rattle.bins.proofs.leaving.leave_first.Goals as goal
 
 pub returns-then-second-eq0 : goal.returns-then-second-eq0

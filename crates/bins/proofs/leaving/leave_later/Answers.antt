@@ -1,7 +1,6 @@
 -- bins::leave_later meets its contract, by the test on the next block.
 use Rattle.bins.specs.Leave.{leave_later}
 use Rattle.words.specs.Choice.{if=-yes, if=-no}
-use borrow.Author.Rules.{rules}
 use mathlib.Core.Path.{sym, ◌∙◌}
 use Rattle.bins.proofs.leaving.leave_later.Goals as goal
 

@@ -1,7 +1,6 @@
 -- bins::pass_over meets its contract, by the test on the level where the bin was found.
 use Rattle.bins.specs.Leave.{pass_over}
 use Rattle.words.specs.Choice.{if=-yes, if=-no}
-use borrow.Author.Rules.{rules}
 use Rattle.bins.proofs.leaving.pass_over.Goals as goal
 
 pub returns-then-bin-height : goal.returns-then-bin-height

@@ -1,5 +1,4 @@
 -- board::fill::counted meets its contract, by the length of the list.
-use borrow.Author.Rules.{rules}
 use lib.ListN.{length-set}
 use native.Mathlib.Omega.{arith}
 use Rattle.board.proofs.Seven.{counted-stored, counted-refused}

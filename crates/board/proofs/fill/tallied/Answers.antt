@@ -1,6 +1,4 @@
 -- board::fill::tallied meets its contract, by the kind of tally.
-use borrow.Author.Rules.{rules}
-use mathlib.Core.Path.{refl}
 use Rattle.board.proofs.fill.tallied.Goals as goal
 
 pub returns-in-Counted : goal.returns-in-Counted

@@ -1,5 +1,4 @@
 -- board::halves::of meets its contract, by the kind of answer.
-use borrow.Author.Rules.{rules}
 use native.Mathlib.Omega.{arith}
 use Rattle.board.proofs.Told.{done-halves, refused-halves}
 use Rattle.board.proofs.halves.of.Goals as goal

@@ -1,5 +1,4 @@
 -- board::bank_clear meets its contract: it tells what the bank's call answers, and leaves what that leaves.
-use borrow.Author.Rules.{rules}
 use Rattle.board.proofs.Told.{told-both}
 use Rattle.board.proofs.pistons.bank_clear.Goals as goal
 

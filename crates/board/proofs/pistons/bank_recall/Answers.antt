@@ -1,5 +1,4 @@
 -- board::bank_recall meets its contract: it tells what the bank's call answers.
-use borrow.Author.Rules.{rules}
 use mathlib.Core.Path.{ap, sym, ◌∙◌}
 use Rattle.board.specs.Heard.{heard}
 use Rattle.board.proofs.pistons.bank_recall.Goals as goal

@@ -1,6 +1,5 @@
 -- choosing::remainder meets its contract, by its text.
 use Rattle.choosing.specs.Remainder.{remainder}
-use borrow.Author.Rules.{rules}
 use Rattle.choosing.proofs.remainder.remainder.Goals as goal
 
 pub returns : goal.returns

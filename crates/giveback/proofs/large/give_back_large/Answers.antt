@@ -2,7 +2,6 @@
 use Rattle.giveback.specs.Large.{give_back_large}
 use Rattle.words.specs.Choice.{if=-yes, if=-no}
 use mathlib.Core.Path.{sym, ◌∙◌}
-use borrow.Author.Rules.{rules}
 use Rattle.giveback.proofs.large.give_back_large.Goals as goal
 
 pub returns-then-top-get32 : goal.returns-then-top-get32

@@ -1,6 +1,5 @@
 -- giveback::join_rest meets its contract, by its text.
 use Rattle.giveback.specs.Large.{join_rest}
-use borrow.Author.Rules.{rules}
 use Rattle.giveback.proofs.large.join_rest.Goals as goal
 
 pub returns : goal.returns

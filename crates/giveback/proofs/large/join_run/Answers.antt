@@ -1,7 +1,6 @@
 -- giveback::join_run meets its contract, by the block above and the one below.
 use Rattle.giveback.specs.Large.{join_run}
 use Rattle.words.specs.Choice.{if=-yes, if=-no, when-yes, when-no}
-use borrow.Author.Rules.{rules}
 use Rattle.giveback.proofs.large.join_run.Goals as goal
 
 pub returns-then-above : goal.returns-then-above

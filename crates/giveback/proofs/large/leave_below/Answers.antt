@@ -1,7 +1,6 @@
 -- giveback::leave_below meets its contract, by the test on the run.
 use Rattle.giveback.specs.Large.{leave_below}
 use Rattle.words.specs.Choice.{if=-yes, if=-no}
-use borrow.Author.Rules.{rules}
 use Rattle.giveback.proofs.large.leave_below.Goals as goal
 
 pub returns-then-start-q : goal.returns-then-start-q

@@ -1,7 +1,6 @@
 -- giveback::run_start meets its contract, by the flag P.
 use Rattle.giveback.specs.Large.{run_start}
 use Rattle.words.specs.Choice.{when-yes, when-no}
-use borrow.Author.Rules.{rules}
 use Rattle.giveback.proofs.large.run_start.Goals as goal
 
 pub returns-then-head : goal.returns-then-head

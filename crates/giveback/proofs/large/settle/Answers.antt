@@ -1,6 +1,5 @@
 -- giveback::settle meets its contract, by its text.
 use Rattle.giveback.specs.Large.{settle}
-use borrow.Author.Rules.{rules}
 use Rattle.giveback.proofs.large.settle.Goals as goal
 
 pub returns : goal.returns

@@ -1,6 +1,5 @@
 -- giveback::at_front meets its contract, by its text.
 use Rattle.giveback.specs.Small.{at_front}
-use borrow.Author.Rules.{rules}
 use Rattle.giveback.proofs.small.at_front.Goals as goal
 
 pub returns : goal.returns

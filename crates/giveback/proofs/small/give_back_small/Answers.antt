@@ -2,8 +2,6 @@
 use Rattle.giveback.specs.Small.{give_back_small}
 use Rattle.homing.specs.Homing.{homed}
 use Rattle.words.specs.Choice.{if=-no, if=-yes}
-use Rattle.words.specs.Sums.{plus}
-use borrow.Author.Rules.{rules}
 use mathlib.Core.Path.{◌∙◌, ap, sym}
 use Rattle.giveback.proofs.small.give_back_small.Goals as goal
 

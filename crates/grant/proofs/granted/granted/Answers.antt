@@ -1,6 +1,5 @@
 -- grant::granted meets its contract, by its text.
 use Rattle.grant.specs.Granted.{granted, spent}
-use borrow.Author.Rules.{rules}
 use Rattle.grant.proofs.granted.granted.Goals as goal
 
 pub returns : goal.returns

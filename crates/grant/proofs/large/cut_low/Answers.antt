@@ -1,6 +1,5 @@
 -- grant::cut_low meets its contract, by its text.
 use Rattle.grant.specs.Large.{cut_low}
-use borrow.Author.Rules.{rules}
 use Rattle.grant.proofs.large.cut_low.Goals as goal
 
 pub returns : goal.returns

@@ -1,6 +1,5 @@
 -- grant::hold meets its contract, by its text.
 use Rattle.grant.specs.Large.{hold}
-use borrow.Author.Rules.{rules}
 use Rattle.grant.proofs.large.hold.Goals as goal
 
 pub returns : goal.returns

@@ -1,6 +1,5 @@
 -- grant::split meets its contract, by its text.
 use Rattle.grant.specs.Large.{split}
-use borrow.Author.Rules.{rules}
 use Rattle.grant.proofs.large.split.Goals as goal
 
 pub returns : goal.returns

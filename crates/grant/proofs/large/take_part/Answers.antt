@@ -1,6 +1,5 @@
 -- grant::take_part meets its contract, by its text.
 use Rattle.grant.specs.Large.{take_part}
-use borrow.Author.Rules.{rules}
 use Rattle.grant.proofs.large.take_part.Goals as goal
 
 pub returns : goal.returns

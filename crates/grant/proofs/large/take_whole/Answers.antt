@@ -1,6 +1,5 @@
 -- grant::take_whole meets its contract, by its text.
 use Rattle.grant.specs.Large.{take_whole}
-use borrow.Author.Rules.{rules}
 use Rattle.grant.proofs.large.take_whole.Goals as goal
 
 pub returns : goal.returns

@@ -1,6 +1,5 @@
 -- grant::cut_high meets its contract, by its text.
 use Rattle.grant.specs.Small.{cut_high}
-use borrow.Author.Rules.{rules}
 use Rattle.grant.proofs.small.cut_high.Goals as goal
 
 pub returns : goal.returns

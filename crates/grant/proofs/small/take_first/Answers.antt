@@ -1,6 +1,5 @@
 -- grant::take_first meets its contract, by its text.
 use Rattle.grant.specs.Small.{take_first}
-use borrow.Author.Rules.{rules}
 use Rattle.grant.proofs.small.take_first.Goals as goal
 
 pub returns : goal.returns

@@ -1,5 +1,4 @@
 -- `ended_ok`: one level has no others.
-use borrow.Author.Rules.{rules}
 use Rattle.lists.proofs.Awaiting.{all-ended, one_ended}
 use Rattle.lists.proofs.index.ended_ok.Goals as goal
 

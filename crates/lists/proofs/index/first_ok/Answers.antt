@@ -1,5 +1,4 @@
 -- `first_ok`: a failing test refuses; the index words decide.
-use borrow.Author.Rules.{rules}
 use Rattle.lists.proofs.Awaiting.{not-larger, on-indexed, other-height}
 use Rattle.lists.proofs.index.first_ok.Goals as goal
 

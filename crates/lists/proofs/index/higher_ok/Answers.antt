@@ -1,8 +1,6 @@
 -- `higher_ok`: the invariant says that all levels are the levels from here.
-use Prim.Native.Nat.{◌-◌, suc}
-use borrow.Author.Rules.{rules}
 use mathlib.Core.Path.{refl}
-use Rattle.lists.proofs.Awaiting.{Climbing, climbing, climbs, is-climbed, no-link-there, not-awaited, too-high}
+use Rattle.lists.proofs.Awaiting.{climbing, climbs, is-climbed, no-link-there, not-awaited, too-high}
 use Rattle.lists.proofs.index.higher_ok.Goals as goal
 
 pub returns-then-h-gt-LEVELS : goal.returns-then-h-gt-LEVELS

@@ -1,8 +1,6 @@
 -- `higher_ok`: the invariant says that all levels are the levels from here.
 use Prim.Native.Nat.{◌-◌, suc}
-use borrow.Author.Rules.{rules}
-use mathlib.Core.Path.{refl}
-use Rattle.lists.proofs.Awaiting.{Climbing, climbing, climbs, is-climbed, no-link-there, not-awaited, too-high}
+use Rattle.lists.proofs.Awaiting.{Climbing}
 use Rattle.lists.proofs.index.higher_ok.Given as goal
 
 abbrev pub invariant-loop-level : goal.invariant-loop-level

@@ -1,5 +1,4 @@
 -- `index_ok`: the chain word refuses, or the levels above decide.
-use borrow.Author.Rules.{rules}
 use Rattle.lists.proofs.Awaiting.{no-chain-link, on-climbed, one-level}
 use Rattle.lists.proofs.index.index_ok.Goals as goal
 

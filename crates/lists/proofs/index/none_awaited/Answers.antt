@@ -1,8 +1,5 @@
 -- `none_awaited`: what is left of the levels decides.
-use Prim.Native.Nat.{◌-◌}
-use borrow.Author.Rules.{rules}
-use Rattle.lists.proofs.Awaiting.{Passing, none_is, passes, passing, some_is}
-use Rattle.paper.specs.Layout.{levels}
+use Rattle.lists.proofs.Awaiting.{none_is, passes, passing, some_is}
 use Rattle.lists.proofs.index.none_awaited.Goals as goal
 
 pub loop-i-init : goal.loop-i-init

@@ -1,7 +1,6 @@
 -- `none_awaited`: what is left of the levels decides.
 use Prim.Native.Nat.{◌-◌}
-use borrow.Author.Rules.{rules}
-use Rattle.lists.proofs.Awaiting.{Passing, none_is, passes, passing, some_is}
+use Rattle.lists.proofs.Awaiting.{Passing}
 use Rattle.paper.specs.Layout.{levels}
 use Rattle.lists.proofs.index.none_awaited.Given as goal
 

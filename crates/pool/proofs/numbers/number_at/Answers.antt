@@ -1,5 +1,4 @@
 -- pool::number_at meets its contract; past the end there is 0.
-use borrow.Author.Rules.{rules}
 use lib.ListN.{get_or-eq_default}
 use mathlib.Core.Path.{sym}
 use Rattle.pool.proofs.numbers.number_at.Goals as goal

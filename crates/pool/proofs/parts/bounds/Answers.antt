@@ -1,5 +1,4 @@
 -- pool::bounds meets its contract, by what asking answers.
-use borrow.Author.Rules.{rules}
 use mathlib.Core.Path.{sym, ◌∙◌}
 use Rattle.pool.proofs.Lent.{bounds-refused, bounds-held}
 use Rattle.pool.proofs.parts.bounds.Goals as goal

@@ -1,5 +1,4 @@
 -- records::request::read meets its contract: each way out is where the tests of the reader lead.
-use borrow.Author.Rules.{rules}
 use Rattle.records.proofs.Records.{past, no_body, short, laid, taken, given, indexed, other}
 use Rattle.records.proofs.request.read.Goals as goal
 

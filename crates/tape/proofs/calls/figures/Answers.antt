@@ -1,6 +1,5 @@
 -- tape::calls::figures meets its contract, by the two ways of its test.
 use mathlib.Core.Path.{sym, ◌∙◌}
-use borrow.Author.Rules.{rules}
 use lib.Seq.{length-take-le}
 use Rattle.words.specs.Choice.{if<-yes, if<-no}
 use Rattle.tape.specs.Serve.{figures_first}

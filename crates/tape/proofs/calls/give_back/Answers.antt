@@ -1,6 +1,5 @@
 -- tape::calls::give_back meets its contract, by the two laws of a call on the first n bytes.
 use mathlib.Core.Path.{sym}
-use borrow.Author.Rules.{rules}
 use lib.Seq.{length-take-le}
 use Rattle.tape.proofs.First.{past-the-buffer, in-the-buffer}
 use Rattle.tape.proofs.calls.give_back.Goals as goal

@@ -1,5 +1,4 @@
 -- tape::serve::serve meets its contract, by the law of each kind of request.
-use borrow.Author.Rules.{rules}
 use Rattle.tape.proofs.Steps.{laid_out, laid-out-indexed, taken, given_back, counted}
 use Rattle.tape.proofs.serve.serve.Goals as goal
 

@@ -1,6 +1,5 @@
 -- walk::bump meets its contract; past the end a store changes nothing.
 use Rattle.walk.specs.Classes.{bumped}
-use borrow.Author.Rules.{rules}
 use lib.Seq.{set_out}
 use mathlib.Core.Path.{sym}
 use Rattle.walk.proofs.class_counts.bump.Goals as goal

@@ -1,8 +1,5 @@
 -- walk::clear meets its contract: the counters are cleared from the front.
-use Prim.Native.Nat.{◌-◌}
-use Rattle.walk.proofs.Cleared.{Cleared, none-cleared, one_more, all-cleared}
-use borrow.Author.Rules.{rules}
-use lib.ListN.{length}
+use Rattle.walk.proofs.Cleared.{none-cleared, one_more, all-cleared}
 use native.Mathlib.Omega.{arith}
 use Rattle.walk.proofs.class_counts.clear.Goals as goal
 

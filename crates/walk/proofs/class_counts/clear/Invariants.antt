@@ -1,9 +1,7 @@
 -- walk::clear meets its contract: the counters are cleared from the front.
 use Prim.Native.Nat.{◌-◌}
-use Rattle.walk.proofs.Cleared.{Cleared, none-cleared, one_more, all-cleared}
-use borrow.Author.Rules.{rules}
+use Rattle.walk.proofs.Cleared.{Cleared}
 use lib.ListN.{length}
-use native.Mathlib.Omega.{arith}
 use Rattle.walk.proofs.class_counts.clear.Given as goal
 
 abbrev pub invariant-loop-i : goal.invariant-loop-i

@@ -1,6 +1,5 @@
 -- walk::count_classes meets its contract, by its text.
 use Rattle.walk.specs.Classes.{class_counts}
-use borrow.Author.Rules.{rules}
 use Rattle.walk.proofs.class_counts.count_classes.Goals as goal
 
 pub returns : goal.returns

@@ -1,10 +1,6 @@
 -- walk::block_at meets its contract: the walk from head to head.
 use Prim.Native.Nat.{◌+◌, ◌-◌}
-use Rattle.heads.specs.Heads.{head_of}
-use Rattle.walk.proofs.Looking.{Looking, begins, stuck, inside, goes_on}
-use borrow.Author.Rules.{rules}
-use mathlib.Core.Path.{sym, ◌∙◌, ap}
-use native.Mathlib.Omega.{arith}
+use Rattle.walk.proofs.Looking.{Looking}
 use Rattle.walk.proofs.looking_up.block_at.Given as goal
 
 abbrev pub invariant-loop-head : goal.invariant-loop-head

@@ -1,7 +1,6 @@
 -- walk::look_up meets its contract, by the tests on the address.
 use Rattle.walk.specs.LookUp as model
 use Rattle.words.specs.Choice.{if<-yes, if<-no}
-use borrow.Author.Rules.{rules}
 use Rattle.walk.proofs.looking_up.look_up.Goals as goal
 
 pub returns-then-address-lt-BLOCKS : goal.returns-then-address-lt-BLOCKS

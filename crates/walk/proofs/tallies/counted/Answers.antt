@@ -1,7 +1,6 @@
 -- walk::counted meets its contract, by the kind of the block.
 use Rattle.walk.specs.Tallies.{counted}
 use Rattle.words.specs.Choice.{if<-yes, if<-no, when-yes, when-no}
-use borrow.Author.Rules.{rules}
 use Rattle.walk.proofs.tallies.counted.Goals as goal
 
 pub returns-then-head : goal.returns-then-head

@@ -1,6 +1,5 @@
 -- walk::tally meets its contract, by its text.
 use Rattle.walk.specs.Tallies.{bare, closed, tally}
-use borrow.Author.Rules.{rules}
 use Rattle.walk.proofs.tallies.tally.Goals as goal
 
 pub returns : goal.returns

@@ -1,9 +1,7 @@
 -- walk::tally_run meets its contract: the walk that counts.
-use Prim.Native.Nat.{◌-◌}
 use Rattle.heads.specs.Heads.{head_of}
-use Rattle.walk.proofs.Along.{Along, begins, ends, stuck, goes_on}
+use Rattle.walk.proofs.Along.{begins, ends, stuck, goes_on}
 use Rattle.walk.specs.Tallies.{counted}
-use borrow.Author.Rules.{rules}
 use mathlib.Core.Path.{sym, ◌∙◌, ap}
 use Rattle.walk.proofs.tallies.tally_run.Goals as goal
 
