@@ -1,5 +1,5 @@
-# What every tool of this repository has: its name before its messages, its heading as its help, and where the repository and the
-# kit stand. To be sourced at the start, before anything is read from standard input; it leaves the shell in the repository.
+# What every tool of this repository has: its name before its messages, its heading as its help, and where the repository
+# stands. To be sourced at the start, before anything is read from standard input; it leaves the shell in the repository.
 case ${BASH_SOURCE[0]} in */*) root=${BASH_SOURCE[0]%/*}/.. ;; *) root=.. ;; esac
 root=$(cd "$root" && pwd -P) || exit 2
 case $0 in /*) script=$0 ;; *) script=$PWD/$0 ;; esac
@@ -30,55 +30,56 @@ wrong_words() { usage >&2; exit 2; }
 # `-h` or `--help` alone shows the heading.
 case ${1:-} in -h | --help) heading; exit 0 ;; esac
 
-# The kit's folder: where `rt` is, or where it was when a tool last found it.
-kit() {
-  local rt link found=target/kit
-  if rt=$(command -v rt); then
-    while [ -L "$rt" ]; do
-      link=$(readlink "$rt") || break
-      case $link in /*) rt=$link ;; *) rt=${rt%/*}/$link ;; esac
-    done
-    rt=$(cd "${rt%/*}/.." && pwd -P) || return 1
-    [ -f "$found" ] && [ "$(<"$found")" = "$rt" ] || { mkdir -p target && printf '%s\n' "$rt" >"$found"; } 2>/dev/null
-    printf '%s\n' "$rt"
-  elif [ -f "$found" ]; then
-    printf '%s\n' "$(<"$found")"
-  else
-    return 1
-  fi
+# The kit, and all that it builds, is for x86-64 alone.
+need_x86_64() { # WHAT
+  local machine
+  machine=$(uname -m)
+  [ "$machine" = x86_64 ] || die "$1 needs an x86-64 machine, and this one is $machine"
 }
-need_rt() { command -v rt >/dev/null || die "$1, and the Rattle kit's command rt, which builds it, is not on the PATH"; }
+need_rt() { # WHY
+  need_x86_64 "the Rattle kit"
+  command -v rt >/dev/null || die "$1, and the Rattle kit's command rt, which builds it, is not on the PATH"
+}
 
-# Whether FILE is there and no older than any file of the crates.
-is_fresh() { [ -f "$1" ] && [ -z "$(find crates crates.txt -newer "$1" -type f -print -quit)" ]; }
+# Whether FILE is there and no older than any file of the crates; what rt makes in a crate's out/ is none of them.
+is_fresh() { [ -f "$1" ] && [ -z "$(find crates crates.txt -regex 'crates/[^/]*/out' -prune -o -newer "$1" -type f -print -quit)" ]; }
 
-# How many crates NAME stands on, itself included.
+# The crates that NAME stands on, and NAME, a line for each.
 crates_of() {
   awk -F: -v name="$1" '
     function visit(crate, words, k, i) {
       if (!(crate in below) || crate in seen) return
-      seen[crate] = 1; count++
+      seen[crate] = 1
       k = split(below[crate], words, " ")
       for (i = 1; i <= k; i++) visit(words[i])
+      print crate
     }
-    !/^#/ && NF == 2 { below[$1] = $2 }
-    END { visit(name); print count + 0 }' crates.txt
+    !/^#/ && NF == 2 { split($1, head, " "); below[head[1]] = $2 }
+    END { visit(name) }' crates.txt
 }
 
-# Proves and builds a crate by `rt WORD NAME`: a line on standard error as each crate is done, and the whole report in target/LOG.
+# Proves and builds a crate by `rt WORD` in its folder: a line on standard error as each crate is proved, and the whole report in target/LOG.
 build() { # LOG WORD NAME
-  local log=target/$1 all done=0 line
+  local log=target/$1 name= line
   mkdir -p target || die "the folder target cannot be made"
-  all=$(crates_of "$3")
-  printf '%s: %s stands on %s crates, whose proofs are checked before it is built: some minutes the first time\n' "$tool" "$3" "$((all - 1))" >&2
-  rt "$2" "$3" 2>&1 </dev/null | tee "$log" | while IFS= read -r line; do
+  printf '%s: %s stands on %s crates, whose proofs are checked before it is built, if they were not: some minutes the first time\n' \
+    "$tool" "$3" "$(($(crates_of "$3" | wc -l) - 1))" >&2
+  # what is built is as old as this, so that a file that is changed meanwhile is newer
+  : >"$log.begun"
+  (cd "crates/$3" && rt "$2") 2>&1 </dev/null | tee "$log" | while IFS= read -r line; do
     case $line in
-      'rt: ok,'*) ;;
-      'rt: '*' proved (unchanged'*) done=$((done + 1)) ;;
-      'rt: '*' proved ('*) done=$((done + 1)); printf '%s: %s of %s: %s\n' "$tool" "$done" "$all" "${line#rt: }" >&2 ;;
+      'crate '*': modules '*) name=${line#crate } name=${name%%:*} ;;
+      'logic=proved '*) printf '%s: %s is proved\n' "$tool" "$name" >&2 ;;
     esac
   done
-  [ "${PIPESTATUS[0]}" -eq 0 ] || { grep -vE '^((fn|struct|enum) .*: proved|library |logic )' "$log" | tail -n 40 >&2; return 1; }
+  [ "${PIPESTATUS[0]}" -eq 0 ] || { grep -vE "$routine" "$log" | tail -n 40 >&2; return 1; }
+}
+# rt's lines on what it proved and what it read for that, which nobody needs to see
+routine='^((fn|struct|enum|impl|trait) .*: proved(, .*)?$|(library|statements|axioms|logic|crate|linked) |logic=proved |empty contracts: 0 |rt: (chose|[a-z0-9_]+: begins with) )'
+
+# Puts a copy of what `build LOG` has made where the tools look for it; what is there already may be running, so it is not written over.
+keep() { # LOG FROM TO
+  { mkdir -p "${3%/*}" && cp "$2" "$3.part" && touch -r "target/$1.begun" "$3.part" && mv -f "$3.part" "$3"; } 2>/dev/null || die "$3 cannot be written"
 }
 
 # Runs a command beside this one, as many at once as there are processors; `wait` is for all of them.

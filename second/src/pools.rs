@@ -29,10 +29,10 @@ pub fn text(seed: u64) -> String {
 const HEAD: &str = "\
 -- Fourteen small pools, written by the second program (`second pools`): blocks and lists, and every byte of them over a patterned buffer. The
 -- last two have layout 2.
-use mathlib.Core.List.{List, [], _∷_}
+use mathlib.Core.List.{List, [], ◌∷◌}
 use Prim.Native.Nat.{ℕ}
-use Rattle·words.specs.Choice.{if=}
-use Rattle·paper·specs.specs.Blocks.{held, free, block, State}
+use Rattle.words.specs.Choice.{if=}
+use Rattle.paper.specs.Blocks.{held, free, block, State}
 ";
 
 /// A random state of n bytes; with room for it, one that has a small and a large bin in use.

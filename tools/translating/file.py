@@ -32,7 +32,7 @@ LOUD = ["#if defined(__GNUC__) && !defined(__clang__)", "#pragma GCC diagnostic 
 
 class File:
     def __init__(self, root, crates, program, fault=None):
-        self.root, self.crates, self.program, self.sources = root, crates, program, Sources(root, crates.names)
+        self.root, self.crates, self.program, self.sources = root, crates, program, Sources(root, crates.names, "board_c")
         self.fault = fault
         self.used_types, self.makers, self.used_constants, self.used_counts = [], {}, {}, set()
         self.headers = self.read_headers()
@@ -131,7 +131,7 @@ class File:
         exported = {path.split("::")[-1]: path for path in self.program.raw
                     if path.startswith("board::") and self.source(path).exported}
         if not exported:
-            raise Unknown("the crate board exports no call")
+            raise Unknown("the crate board_c exports no call")
         pool = self.reach([p for n, p in exported.items() if n.startswith("pool_")])
         every = self.reach(exported.values())
         self.names = Names(exported, every)

@@ -246,7 +246,7 @@ def cast_unsigned(bits, a):
 
 # The kit's own library is not translated. The pool calls two functions of it, of two numbers of 32 bits each; their contracts are the
 # sum and the difference modulo 2^32, which are C's own.
-KIT = {"std::num::wrapping_add_u32": "wrapping_add_u32", "std::num::wrapping_sub_u32": "wrapping_sub_u32"}
+KIT = {"core::num::wrapping_add_u32": "wrapping_add_u32", "core::num::wrapping_sub_u32": "wrapping_sub_u32"}
 
 
 @form("wrapping_add_u32")

@@ -33,7 +33,7 @@ def in_range(bits, sign, n):
 
 
 # Of the kit's own library, whose MIR is not here: what the contracts say.
-KIT = {"std::num::wrapping_add_u32": lambda a, b: (a + b) % 2 ** 32, "std::num::wrapping_sub_u32": lambda a, b: (a - b) % 2 ** 32}
+KIT = {"core::num::wrapping_add_u32": lambda a, b: (a + b) % 2 ** 32, "core::num::wrapping_sub_u32": lambda a, b: (a - b) % 2 ** 32}
 
 
 class TooLong(Exception):
@@ -115,7 +115,7 @@ class Machine:
                 self.put(place, self.rvalue(rvalue, frame, place, types), frame)
             elif key == "Call":
                 callee, operands, place = body[1]
-                self.put(place, self.call(callee["Direct"], [self.operand(o, frame) for o in operands]), frame)
+                self.put(place, self.call(callee["Fn"][0], [self.operand(o, frame) for o in operands]), frame)
             elif key == "If":
                 test = self.operand(body[1], frame)
                 need(test in (0, 1), "a test of no truth")
@@ -208,7 +208,7 @@ class Machine:
         if key == "Aggregate":
             return tuple(self.operand(o, frame) for o in under)
         if key == "Repeat":
-            return [self.operand(under[0], frame)] * under[1]
+            return [self.operand(under[0], frame)] * under[1]["Lit"]
         if key == "AddrOf":
             steps = under["steps"]
             need(not steps or "Deref" in steps[-1], "an address of a field")
@@ -240,7 +240,7 @@ class Machine:
     def field(self, ty, variant, number):
         if "Struct" in ty:
             return ty["Struct"][1][number]
-        shape = self.shape(ty["Named"]["name"])
+        shape = self.shape(ty["Named"][0]["name"])
         if "Fields" in shape:
             return shape["Fields"][number]
         return {"Int": 8} if number == 0 else shape["Variants"][variant][number - 1]

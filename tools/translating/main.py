@@ -16,7 +16,7 @@ from tree import Unknown
 
 
 def mir_of(root, crates):
-    return [os.path.join(root, f"target/rlib/{crate}.rlib/toolchain/mir.json") for crate in crates.names]
+    return [os.path.join(root, f"target/mir/{crate}.json") for crate in crates.names]
 
 
 def written(root, fault=None):

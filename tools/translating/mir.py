@@ -1,4 +1,5 @@
-"""Reads the MIR that the kit leaves of every proved crate, `target/rlib/NAME.rlib/toolchain/mir.json`, into the trees of tree.py.
+"""Reads the MIR that the kit leaves of every proved library, `toolchain/mir.json` of its rlib, into the trees of tree.py. tools/c99 has put
+it into `target/mir/NAME.json`.
 
 A form that is not named here stops the translation: nothing is guessed. What each form means is what the kit's logic says of it
 (its file Mir/Syntax.antt); in short:
@@ -92,7 +93,10 @@ class Program:
             _, length = only(under[1], "Lit")
             return Array(self.type(under[0]), length)
         if key == "Named":
-            return Named(under["name"])
+            named, given = under
+            if given:
+                raise Unknown(f"{named['name']} with parameters")
+            return Named(named["name"])
         if under[0] != "&[]":
             raise Unknown(f"a struct without a declaration, {under[0]}")
         pointer, length = (self.type(part) for part in under[1])
@@ -124,6 +128,8 @@ class Reader:
             self.types.append(ty)
 
     def fn(self):
+        if self.raw["generics"]["types"] or self.raw["generics"]["method_of"] is not None:
+            raise Unknown("a function with type parameters, or a method of a trait")
         body = self.body([])
         if self.at != len(self.raw["body"]):
             raise Unknown("words are left after the body")
@@ -180,7 +186,9 @@ class Reader:
 
     def call(self, under):
         callee, operands, place = under
-        _, name = only(callee, "Direct")
+        _, (name, given) = only(callee, "Fn")
+        if given["types"] or given["dicts"]:
+            raise Unknown(f"a call of {name} with type parameters")
         args = [self.operand(o) for o in operands]
         if not self.program.has(name):
             raise Unknown(f"a call of {name}, which no crate has")
@@ -204,10 +212,12 @@ class Reader:
     def assign(self, under):
         place, rvalue = under
         if place["steps"]:
-            # a store through a pointer; a field of a local is never stored to by itself
             target = self.place(place)
+            if isinstance(target, Field) and isinstance(target.of, Var):
+                return SetField(target, self.rvalue(rvalue, target.ty))
+            # else through a pointer
             if not isinstance(target, Load):
-                raise Unknown("a store to something else than a local or what a pointer leads to")
+                raise Unknown("a store to something else than a local, a field of one or what a pointer leads to")
             value = self.rvalue(rvalue, target.ty)
             return Store(target, value)
         return Set(place["local"], self.rvalue(rvalue, self.types[place["local"]]))
@@ -225,8 +235,9 @@ class Reader:
         elif key == "AddrOf":
             value = self.address(under, wanted)
         elif key == "Repeat":
-            value = Repeat(wanted, self.operand(under[0]), under[1])
-            if wanted != Array(value.value.ty, under[1]):
+            _, length = only(under[1], "Lit")
+            value = Repeat(wanted, self.operand(under[0]), length)
+            if wanted != Array(value.value.ty, length):
                 raise Unknown("an array of another length or element than its local's")
         else:
             value = self.aggregate([self.operand(o) for o in under], wanted)

@@ -4,12 +4,14 @@ may come of it. And a value is moved to its use only where that changes nothing.
 import copy
 import os
 import sys
+import tempfile
 
 from crates import Crates
 from file import File
 from forms import COUNTS
 from mir import Program
 from shape import Shaper
+from source import Sources
 from tree import Call, Do, Fn, Int, Load, Num, Offset, Op2, Ref, Return, Set, Slice, Start, Store, UNIT, Unknown, Var
 
 root, = sys.argv[1:]
@@ -26,7 +28,7 @@ def expect(holds, what):
 # ---- what is not known
 
 CRATES = Crates(root, "board")
-FILES = [os.path.join(root, f"target/rlib/{crate}.rlib/toolchain/mir.json") for crate in CRATES.names]
+FILES = [os.path.join(root, f"target/mir/{crate}.json") for crate in CRATES.names]
 PROGRAM = Program(FILES)
 
 
@@ -82,6 +84,11 @@ def has_op(op):
     return lambda form: isinstance(form, list) and len(form) == 3 and form[0] == op
 
 
+def calls(old, new):
+    """The first call, or the first of that function, becomes one of another."""
+    return deep(lambda f: isinstance(f, dict) and "Fn" in f and old in (None, f["Fn"][0]), lambda f: f["Fn"].__setitem__(0, new))
+
+
 def operation(old, new):
     return deep(has_op(old), lambda form: form.__setitem__(0, new))
 
@@ -91,7 +98,7 @@ stops("a word of the body", FIND, word("Skip", "Trap"), "'Trap'")
 stops("an exit of two loops", FIND, word({"Exit": 1}, {"Exit": 2}), "an exit of 2")
 stops("a loop without a block", FIND, word("Block", []), "a loop that is not the whole of a block")
 stops("a block without a loop", "bins::chain::linked", word("Seq", ["Block", "Seq"]), "'Seq'")
-stops("a statement", FIND, rename("Call", "TailCall"), "'TailCall'")
+stops("a call by a pointer", FIND, rename("Call", "CallV"), "'CallV'")
 stops("a signed sum", "header::zeros", operation({"Add": "Unsigned"}, {"Add": "Signed"}), "Add Signed")
 stops("an operation of two", "heads::head::together", operation("Or", "Xor"), "'Xor'")
 stops("an operation of one", "classes::class_of", deep(lambda f: isinstance(f, list) and f[:1] == ["LeadingZeros"],
@@ -109,11 +116,15 @@ stops("a type", FIND, local(9, ty={"Float": 32}), "'Float'")
 stops("an integer of 128 bits", FIND, local(9, ty={"Int": 128}), "an integer of 128 bits")
 stops("a number in memory", FIND, local(9, home="MemorySlot"), "a local of another home")
 stops("a struct without a declaration", FIND, local(9, ty={"Struct": ["S", []]}), "a struct without a declaration")
-stops("a call by a pointer", FIND, rename("Direct", "Indirect"), "'Indirect'")
-stops("a call of nothing", FIND, deep(key("Direct"), lambda f: f.update(Direct="bins::chain::gone")), "which no crate has")
-stops("a call with other types", FIND, deep(key("Direct"), lambda f: f.update(Direct="words::get32")), "other types")
-stops("a function that calls itself", "bins::entering::enter",
-      deep(lambda f: f == {"Direct": "bins::entering::enter_bin"}, lambda f: f.update(Direct="bins::entering::enter")), "calls itself")
+stops("a call of a trait's method", FIND, rename("Fn", "Method"), "'Method'")
+stops("a call of nothing", FIND, calls(None, "bins::chain::gone"), "which no crate has")
+stops("a call with other types", FIND, calls(None, "words::get32"), "other types")
+stops("a call with a type parameter", FIND, deep(key("Fn"), lambda f: f["Fn"][1].update(types=[{"Int": 32}])), "with type parameters")
+stops("a call with a trait's functions", FIND, deep(key("Fn"), lambda f: f["Fn"][1].update(dicts=[{}])), "with type parameters")
+stops("a function with a type parameter", FIND, lambda raw: raw["generics"].update(types=[{}]), "a function with type parameters")
+stops("a method of a trait", FIND, lambda raw: raw["generics"].update(method_of={}), "a method of a trait")
+stops("a type with a parameter", "bank::kinds::kind_of", lambda raw: raw["locals"][0]["ty"]["Named"].__setitem__(1, [{"Int": 32}]), "with parameters")
+stops("a function that calls itself", "bins::entering::enter", calls("bins::entering::enter_bin", "bins::entering::enter"), "calls itself")
 stops("a switch with a default", "board::halves::of", deep(key("Switch"), lambda f: f["Switch"].__setitem__(2, True)),
       "a switch that has not one arm")
 stops("a switch with its arms in another order", "board::halves::of",
@@ -122,13 +133,39 @@ stops("a switch on a number", "board::halves::of",
       deep(key("Switch"), lambda f: f["Switch"].__setitem__(0, {"Copy": {"local": 2, "steps": []}})), "something else than an enum's tag")
 stops("an offset that is no index", "marks::put_in",
       deep(lambda f: f == {"Int": {"width": 64, "value": 8}}, lambda f: f["Int"].update(value=4)), "no index of elements")
-stops("a store to a field", FIND, deep(key("Assign"), lambda f: f["Assign"].__setitem__(0, {"local": 0, "steps": [{"Field": 0}]})),
-      "a store to something else")
+stops("a store to a part of a variant", "bank::kinds::kind_of",
+      deep(key("Assign"), lambda f: f["Assign"].__setitem__(0, {"local": 0, "steps": [{"Variant": 0}, {"Field": 1}]})), "a store to something else")
+stops("an array whose length is a parameter", "bins::leaving::leave_both", deep(key("Repeat"), lambda f: f["Repeat"].__setitem__(1, {"Param": 0})),
+      "'Param'")
 stops("a tag that no variant has", "bank::kinds::kind_of",
       deep(key("Aggregate"), lambda f: f["Aggregate"].__setitem__(0, {"Int": {"width": 8, "value": 9}})), "no number of a variant")
 stops("a struct with too few fields", FIND, deep(key("Aggregate"), lambda f: f["Aggregate"].pop()), "other fields than its own")
 stops("words that are left over", FIND, lambda raw: raw["body"].append("Skip"), "words are left")
 stops("an end without a result", "bins::chain::linked", word("Return", "Skip"), "without a result")
+
+# ---- what C calls
+
+def exported(head="#[unsafe(no_mangle)]", name="f", call="board::f(a, b)"):
+    """The calls that C has, where the crate board has the function f of a and b, and board_c is as given."""
+    texts = {"board": "pub fn f(a: u32, b: u32) -> u64\n{\n    a as u64\n}",
+             "board_c": f'{head}\npub extern "C" fn {name}(a: u32, b: u32) -> u64\n{{\n    {call}\n}}'}
+    with tempfile.TemporaryDirectory() as room:
+        for crate, text in texts.items():
+            os.makedirs(os.path.join(room, "crates", crate, "src"))
+            with open(os.path.join(room, "crates", crate, "src/lib.rt"), "w") as to:
+                to.write(text + "\n")
+        try:
+            return [path for path, function in Sources(room, ["board"], "board_c").functions.items() if function.exported]
+        except Unknown:
+            return "it stops"
+
+
+expect(exported() == ["board::f"], "what board_c exports is board's")
+expect(exported(head="// f") == "it stops", "a function of board_c that is not exported")
+expect(exported(name="g", call="board::g(a, b)") == "it stops", "a call that board has not")
+expect(exported(name="g") == "it stops", "a call of a function of another name")
+expect(exported(call="board::f(b, a)") == "it stops", "a call with other arguments")
+expect(exported(call="board::f(a, b) + 1") == "it stops", "more than a call")
 
 # ---- what C has not
 

@@ -13,13 +13,14 @@ from tree import Unknown
 
 WORD = re.compile(r"[A-Za-z_][A-Za-z0-9_]*|\d[\d_]*|=>|::|\S")
 FUNCTION = re.compile(r'(?:pub(?:\(crate\))? )?(?:extern "C" )?fn (\w+)')
+EXPORT = "#[unsafe(no_mangle)]"
 TYPE = re.compile(r"(?:pub(?:\(crate\))? )?(struct|enum) (\w+)")
 CONSTANT = re.compile(r"(?:pub(?:\(crate\))? )?const (\w+): \w+ = ([\d_]+);$")
 
 
 class Function:
-    def __init__(self, comment, params, body, exported):
-        self.comment, self.params, self.exported = comment, params, exported
+    def __init__(self, comment, params, body, is_export):
+        self.comment, self.params, self.is_export, self.exported = comment, params, is_export, False
         self.words = WORD.findall(without_comments(body))
         self.names = bindings(self.words)
         self.numbers = {int(w.replace("_", "")) for w in self.words if w[0].isdigit()}
@@ -33,13 +34,27 @@ class Type:
 
 
 class Sources:
-    def __init__(self, root, crates):
+    """Of these crates, and of `exporting`, which has a function under its C name for each that the last of them has for C. The archive is made
+    of that crate, and the C file of those below it: so such a function calls the other, and does nothing else."""
+
+    def __init__(self, root, crates, exporting):
         self.functions, self.types, self.constants = {}, {}, {}
-        for crate in crates:
+        for crate in [*crates, exporting]:
             for file in sorted(glob.glob(os.path.join(root, "crates", crate, "src/*.rt"))):
                 stem = os.path.basename(file)[:-3]
                 with open(file) as text:
                     self.read(crate if stem == "lib" else f"{crate}::{stem}", text.read().split("\n"))
+        of_c = {path: function for path, function in self.functions.items() if path.split("::")[0] == exporting}
+        for path, function in of_c.items():
+            self.export(crates[-1], path, function)
+
+    def export(self, crate, path, function):
+        name = path.split("::")[-1]
+        own = [f for p, f in self.functions.items() if (p.split("::")[0], p.split("::")[-1]) == (crate, name)]
+        call = WORD.findall(f"{{{crate}::{name}({', '.join(function.params)})")
+        if not function.is_export or len(own) != 1 or function.words != call or function.params != own[0].params:
+            raise Unknown(f"{path} is another function than `{EXPORT}` and a call of {crate}::{name}")
+        own[0].exported = True
 
     def read(self, module, lines):
         for at, line in enumerate(lines):
@@ -76,8 +91,7 @@ def read_function(lines, at):
     if not params:
         raise Unknown(f"the parameters of '{lines[at]}' are not found in its source")
     names = re.findall(r"(?:mut )?(\w+):", params[1])
-    exported = at > 0 and lines[at - 1] == "#[no_mangle]"
-    return Function(comment_above(lines, at), names, "\n".join(body), exported)
+    return Function(comment_above(lines, at), names, "\n".join(body), at > 0 and lines[at - 1] == EXPORT)
 
 
 def read_type(lines, at):

@@ -7,30 +7,21 @@ ghost use Rattle.board.specs.Pistons.{leaves_both, left_both};
 use crate::halves;
 
 // Sets a piston; answers the pool's length.
-#[unsafe(no_mangle)]
-pub extern "C" fn bank_set(
-    pool: &mut [u8],
-    bank: &mut [u32; 32],
-    piston: u32,
-    kind: u8,
-    body: &[u8],
-) -> u64
+pub fn bank_set(pool: &mut [u8], bank: &mut [u32; 32], piston: u32, kind: u8, body: &[u8]) -> u64
     ensures { leaves_both (call.set pool.old bank.old piston kind body.now) ≡ left_both (halves result) pool.new bank.new }
 {
     halves::of(bank::set(pool, bank, piston, kind, body))
 }
 
 // Clears a piston; answers the pool's length.
-#[unsafe(no_mangle)]
-pub extern "C" fn bank_clear(pool: &mut [u8], bank: &mut [u32; 32], piston: u32) -> u64
+pub fn bank_clear(pool: &mut [u8], bank: &mut [u32; 32], piston: u32) -> u64
     ensures { leaves_both (call.clear pool.old bank.old piston) ≡ left_both (halves result) pool.new bank.new }
 {
     halves::of(bank::clear(pool, bank, piston))
 }
 
 // Recalls a piston; answers how many bytes the record has. It starts at the piston's offset, which C reads from the bank.
-#[unsafe(no_mangle)]
-pub extern "C" fn bank_recall(pool: &[u8], bank: &[u32; 32], piston: u32) -> u64
+pub fn bank_recall(pool: &[u8], bank: &[u32; 32], piston: u32) -> u64
     ensures { heard (call.asked (call.recall pool.now bank.now piston)) ≡ halves result }
 {
     halves::of(bank::ask(pool, bank, piston))
