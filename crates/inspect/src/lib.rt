@@ -3,7 +3,7 @@
 #![tactic(auto)]
 
 ghost use Rattle.std.specs.Prelude.{◌≡◌};
-ghost use Rattle.paper.specs.Allowed.{allowed as Allowed-of};
+ghost use Rattle.paper.specs.Allowed.{allowed as allowed_of};
 ghost use Rattle.inspect.specs.Inspection.{edge_held, old_inspected};
 ghost use Rattle.inspect.specs.Contract.{OldInspected};
 
@@ -11,7 +11,7 @@ use paper::{END, FREE_WORD, START};
 
 // Whether a pool may have n bytes.
 pub fn allowed(n: usize) -> bool
-    ensures { result ≡ Allowed-of n }
+    ensures { result ≡ allowed_of n }
 {
     if n < 176 {
         return false;

@@ -6,7 +6,7 @@
 ghost use Rattle.std.specs.Prelude.{◌≡◌, ◌-◌};
 ghost use Rattle.paper.specs.Layout.{chain_at, false_block, levels};
 ghost use Rattle.bins.specs.Find.{linked_at};
-ghost use Rattle.moving.specs.Move.{moving, stand as Stand-of, pass as pass_of, sizes, closed, moved};
+ghost use Rattle.moving.specs.Move.{moving, stand as stand_of, pass as pass_of, sizes, closed, moved};
 
 use levels::HIGHER;
 use paper::{CHAIN, FALSE_BLOCK, LEVEL, LEVELS};
@@ -40,7 +40,7 @@ fn pass(pool: &mut [u8], lasts: &mut [u32; HIGHER], top: u32)
 
 // The first block f, h levels high: its level word; and on each of its levels from 2 on the last one leads to it, and it is the last one now.
 fn stand(pool: &mut [u8], lasts: &mut [u32; HIGHER], h: u32, f: u32)
-    ensures { moving pool.new lasts.new ≡ Stand-of h f (moving pool.old lasts.old) }
+    ensures { moving pool.new lasts.new ≡ stand_of h f (moving pool.old lasts.old) }
 {
     if LEVELS < h {
         return;

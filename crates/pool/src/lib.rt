@@ -102,7 +102,7 @@ pub fn lend(pool: &[u8], offset: u32) -> &[u8]
 }
 
 // The payload at `offset`, for writing; the empty part at the pool's end where the call is refused. The pool is read through `&`
-// alone before the part is made, so no byte can change: a contract cannot say that of a reference which goes into the result.
+// alone before the part is made, so no byte can change. The contract does not say that: the parameter goes into the result.
 pub fn lend_mut(pool: &mut [u8], offset: u32) -> &mut [u8]
     ensures { call.LentMut result pool.entry offset }
 {

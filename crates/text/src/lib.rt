@@ -3,8 +3,8 @@
 #![tactic(auto)]
 
 ghost use Rattle.std.specs.Prelude.{◌≡◌};
-ghost use Rattle.text.specs.Page.{page, put_one, put as Page·put};
-ghost use Rattle.text.specs.Numeral.{numeral as Numeral·numeral};
+ghost use Rattle.text.specs.Page.{page, put_one, put as put_of};
+ghost use Rattle.text.specs.Numeral.{numeral as numeral_of};
 
 use itoa::Buffer;
 
@@ -21,7 +21,7 @@ pub fn put_one(out: &mut [u8], at: usize, b: u8) -> usize
 
 // Puts the bytes of a text, one after the other.
 pub fn put(out: &mut [u8], at: usize, text: &[u8]) -> usize
-    ensures { Page·put (page at out.old) text.now ≡ page result out.new }
+    ensures { put_of (page at out.old) text.now ≡ page result out.new }
 {
     let mut place = at;
     let mut i = 0;
@@ -34,7 +34,7 @@ pub fn put(out: &mut [u8], at: usize, text: &[u8]) -> usize
 
 // Puts a number in decimal.
 pub fn numeral(out: &mut [u8], at: usize, v: u32) -> usize
-    ensures { Page·put (page at out.old) (Numeral·numeral v) ≡ page result out.new }
+    ensures { put_of (page at out.old) (numeral_of v) ≡ page result out.new }
 {
     let mut digits = Buffer::new();
     put(out, at, digits.format(v).as_bytes())
