@@ -3,7 +3,8 @@
    Made by tools/c99 from the checked MIR of the proved crates, with a function for each of theirs: do not edit it, edit the crates. What is
    proved is that program. That this file does the same is tested, not proved: docs/BOARD.md says how, and how to use the file.
 
-   Names say where a function comes from: bins_enter is `enter` of the crate bins. A slice of Rattle's is a pointer and a length, NAME and
+   Names say where a function comes from: bins_enter is `enter` of the crate bins; runs_scan_Small is its `scan` for the type `Small`, and
+   Option_u32 a u32 that may be absent. A slice of Rattle's is a pointer and a length, NAME and
    NAME_len; its usize is uint64_t, since the proofs are about 64 bits, whatever size_t is here. Every number is unsigned: a signed
    distance is its two's complement. A truth is 0 or 1. Bytes of the pool are read and written one by one, so neither its alignment nor
    the machine's byte order matters.
@@ -18,23 +19,19 @@
 #include <stddef.h>
 #include <stdint.h>
 
+#define WORDS_U32_WIDTH 4u
+#define WORDS_U64_WIDTH 8u
+#define HEADS_HELD_ABOVE_FREE 1u
 #define HEADS_FREE 2u
 #define HEADS_HELD 3u
 #define CLASSES_LEAST 8u
 #define CLASSES_CLASSES 53u
 #define CLASSES_GREATEST 65536u
 #define PAPER_FREE_WORD 0u
-#define PAPER_NOT_ALLOWED 1u
-#define PAPER_NOT_SOUND 2u
-#define PAPER_NO_SIZE 3u
-#define PAPER_NO_ROOM 4u
 #define PAPER_PREVIOUS 4u
 #define PAPER_SMALL_NEXT 4u
-#define PAPER_NOT_HELD 5u
-#define PAPER_LIST_LENGTH 6u
 #define PAPER_FALSE_WORD 8u
 #define PAPER_NEXT 8u
-#define PAPER_NO_LAYOUT 8u
 #define PAPER_LEVEL 12u
 #define PAPER_LEVELS 13u
 #define PAPER_START 16u
@@ -44,7 +41,6 @@
 #define PAPER_LARGE 72u
 #define PAPER_FALSE_BLOCK 96u
 #define PAPER_BLOCKS 168u
-#define CONVERT_OTHER_LAYOUT 13u
 
 typedef struct {
     uint32_t size;
@@ -58,19 +54,50 @@ typedef struct {
     uint32_t home;
 } heads_Pair;
 
+// Why a call is refused. Each has a number, which a caller in C and the lines of a program tell.
+enum { PAPER_REFUSAL_NOT_ALLOWED, PAPER_REFUSAL_NOT_SOUND, PAPER_REFUSAL_NO_SIZE, PAPER_REFUSAL_NO_ROOM, PAPER_REFUSAL_NOT_HELD,
+       PAPER_REFUSAL_LIST_LENGTH, PAPER_REFUSAL_UNREADABLE, PAPER_REFUSAL_NO_LAYOUT, PAPER_REFUSAL_NO_PISTON,
+       PAPER_REFUSAL_NO_RECORD, PAPER_REFUSAL_NOT_NAMED, PAPER_REFUSAL_OTHER_LAYOUT };
 typedef struct {
-    int ok;
+    uint8_t tag;
+} paper_Refusal;
+
+// A value that may be absent.
+enum { OPTION_U32_NONE, OPTION_U32_SOME };
+typedef struct {
+    uint8_t tag;
+    union {
+        uint32_t Some;
+    } as;
+} Option_u32;
+
+// How many free blocks there were, and the sum of their sizes.
+typedef struct {
     uint64_t count;
     uint64_t sum;
 } runs_Seen;
 
+// A value that may be absent.
+enum { OPTION_SEEN_NONE, OPTION_SEEN_SOME };
 typedef struct {
-    int ok;
-    uint64_t left;
-} lists_Left;
+    uint8_t tag;
+    union {
+        runs_Seen Some;
+    } as;
+} Option_Seen;
+
+// A value that may be absent.
+enum { OPTION_U64_NONE, OPTION_U64_SOME };
+typedef struct {
+    uint8_t tag;
+    union {
+        uint64_t Some;
+    } as;
+} Option_u64;
 
 // What was found for a size on a level of the index: the last block there that is smaller, the next one, and the size of that. Where there is
 // no next one, the last two are 0. Other crates pass it on, and ask whether there is one and its size.
+// No Option of the two: 0 is the pool's own word for none, `along` compares `first` with each link that it reads, and the models say so.
 typedef struct {
     uint32_t level;
     uint32_t before;
@@ -84,11 +111,21 @@ typedef struct {
     uint32_t size;
 } choosing_Rest;
 
+// A value, or why there is none.
+enum { RESULT_REST_REFUSAL_OK, RESULT_REST_REFUSAL_ERR };
+typedef struct {
+    uint8_t tag;
+    union {
+        choosing_Rest Ok;
+        paper_Refusal Err;
+    } as;
+} Result_Rest_Refusal;
+
 // One case for each clause of the rule. Each carries what carrying it out needs, and last the size of the block, so nothing is looked
 // for twice: the first block of a small bin; the remainder, for its high end; a bin of exactly that size; a larger one, for the
-// low end of a block; the remainder, for its low end; the number of a refusal.
+// low end of a block; the remainder, for its low end.
 enum { CHOOSING_CHOICE_FIRST_OF_BIN, CHOOSING_CHOICE_HIGH_END, CHOOSING_CHOICE_EXACT_BIN, CHOOSING_CHOICE_LARGER_BIN,
-       CHOOSING_CHOICE_LOW_END, CHOOSING_CHOICE_REFUSAL };
+       CHOOSING_CHOICE_LOW_END };
 typedef struct {
     uint8_t tag;
     union {
@@ -97,19 +134,51 @@ typedef struct {
         struct { bins_Bin f0; uint32_t f1; } ExactBin;
         struct { bins_Bin f0; uint32_t f1; } LargerBin;
         struct { choosing_Rest f0; uint32_t f1; } LowEnd;
-        uint8_t Refusal;
     } as;
 } choosing_Choice;
 
-// A call is done, with its value, or refused, with the refusal's number.
-enum { PAPER_ANSWER_DONE, PAPER_ANSWER_REFUSED };
+// A value, or why there is none.
+enum { RESULT_CHOICE_REFUSAL_OK, RESULT_CHOICE_REFUSAL_ERR };
 typedef struct {
     uint8_t tag;
     union {
-        uint32_t Done;
-        uint8_t Refused;
+        choosing_Choice Ok;
+        paper_Refusal Err;
     } as;
-} paper_Answer;
+} Result_Choice_Refusal;
+
+// A value, or why there is none.
+enum { RESULT_U32_REFUSAL_OK, RESULT_U32_REFUSAL_ERR };
+typedef struct {
+    uint8_t tag;
+    union {
+        uint32_t Ok;
+        paper_Refusal Err;
+    } as;
+} Result_u32_Refusal;
+
+// The blocks that start from `at` on and below `end`. One of size 0, which no sound pool has, ends them.
+typedef struct {
+    const unsigned char *pool;
+    size_t pool_len;
+    uint64_t at;
+    uint64_t end;
+} walk_Blocks;
+
+// A block on the way: where it starts, and its head.
+typedef struct {
+    uint64_t start;
+    heads_Head head;
+} walk_Block;
+
+// A value that may be absent.
+enum { OPTION_BLOCK_NONE, OPTION_BLOCK_SOME };
+typedef struct {
+    uint8_t tag;
+    union {
+        walk_Block Some;
+    } as;
+} Option_Block;
 
 // The block that an address is in, by its kind, with its start and its size; or nothing, outside the blocks.
 enum { PAPER_FOUND_HELD, PAPER_FOUND_FREE, PAPER_FOUND_REMAINDER, PAPER_FOUND_NOTHING };
@@ -139,15 +208,24 @@ typedef struct {
     uint32_t blocks;
 } homing_Run;
 
-// The answer of a call for the figures.
-enum { PAPER_TALLY_COUNTED, PAPER_TALLY_REFUSED };
+// A value, or why there is none.
+enum { RESULT_VOID_REFUSAL_OK, RESULT_VOID_REFUSAL_ERR };
 typedef struct {
     uint8_t tag;
     union {
-        paper_Figures Counted;
-        uint8_t Refused;
+        paper_Refusal Err;
     } as;
-} paper_Tally;
+} Result_void_Refusal;
+
+// A value, or why there is none.
+enum { RESULT_FIGURES_REFUSAL_OK, RESULT_FIGURES_REFUSAL_ERR };
+typedef struct {
+    uint8_t tag;
+    union {
+        paper_Figures Ok;
+        paper_Refusal Err;
+    } as;
+} Result_Figures_Refusal;
 
 // One member of a union is set, and maybe not the widest: gcc warns of that as of a value that was not set.
 #if defined(__GNUC__) && !defined(__clang__)
@@ -172,20 +250,112 @@ static inline heads_Pair heads_Pair_of(uint32_t there, uint32_t home)
     return made;
 }
 
-static inline runs_Seen runs_Seen_of(int ok, uint64_t count, uint64_t sum)
+static inline paper_Refusal paper_Refusal_NotAllowed(void)
+{
+    paper_Refusal made;
+    made.tag = PAPER_REFUSAL_NOT_ALLOWED;
+    return made;
+}
+
+static inline paper_Refusal paper_Refusal_NotSound(void)
+{
+    paper_Refusal made;
+    made.tag = PAPER_REFUSAL_NOT_SOUND;
+    return made;
+}
+
+static inline paper_Refusal paper_Refusal_NoSize(void)
+{
+    paper_Refusal made;
+    made.tag = PAPER_REFUSAL_NO_SIZE;
+    return made;
+}
+
+static inline paper_Refusal paper_Refusal_NoRoom(void)
+{
+    paper_Refusal made;
+    made.tag = PAPER_REFUSAL_NO_ROOM;
+    return made;
+}
+
+static inline paper_Refusal paper_Refusal_NotHeld(void)
+{
+    paper_Refusal made;
+    made.tag = PAPER_REFUSAL_NOT_HELD;
+    return made;
+}
+
+static inline paper_Refusal paper_Refusal_ListLength(void)
+{
+    paper_Refusal made;
+    made.tag = PAPER_REFUSAL_LIST_LENGTH;
+    return made;
+}
+
+static inline paper_Refusal paper_Refusal_NoLayout(void)
+{
+    paper_Refusal made;
+    made.tag = PAPER_REFUSAL_NO_LAYOUT;
+    return made;
+}
+
+static inline paper_Refusal paper_Refusal_OtherLayout(void)
+{
+    paper_Refusal made;
+    made.tag = PAPER_REFUSAL_OTHER_LAYOUT;
+    return made;
+}
+
+static inline Option_u32 Option_u32_None(void)
+{
+    Option_u32 made;
+    made.tag = OPTION_U32_NONE;
+    return made;
+}
+
+static inline Option_u32 Option_u32_Some(uint32_t f0)
+{
+    Option_u32 made;
+    made.tag = OPTION_U32_SOME;
+    made.as.Some = f0;
+    return made;
+}
+
+static inline runs_Seen runs_Seen_of(uint64_t count, uint64_t sum)
 {
     runs_Seen made;
-    made.ok = ok;
     made.count = count;
     made.sum = sum;
     return made;
 }
 
-static inline lists_Left lists_Left_of(int ok, uint64_t left)
+static inline Option_Seen Option_Seen_None(void)
 {
-    lists_Left made;
-    made.ok = ok;
-    made.left = left;
+    Option_Seen made;
+    made.tag = OPTION_SEEN_NONE;
+    return made;
+}
+
+static inline Option_Seen Option_Seen_Some(runs_Seen f0)
+{
+    Option_Seen made;
+    made.tag = OPTION_SEEN_SOME;
+    made.as.Some = f0;
+    return made;
+}
+
+static inline Option_u64 Option_u64_None(void)
+{
+    Option_u64 made;
+    made.tag = OPTION_U64_NONE;
+    return made;
+}
+
+static inline Option_u64 Option_u64_Some(uint64_t f0)
+{
+    Option_u64 made;
+    made.tag = OPTION_U64_SOME;
+    made.as.Some = f0;
     return made;
 }
 
@@ -205,6 +375,22 @@ static inline choosing_Rest choosing_Rest_of(uint32_t start, uint32_t end, uint3
     made.start = start;
     made.end = end;
     made.size = size;
+    return made;
+}
+
+static inline Result_Rest_Refusal Result_Rest_Refusal_Ok(choosing_Rest f0)
+{
+    Result_Rest_Refusal made;
+    made.tag = RESULT_REST_REFUSAL_OK;
+    made.as.Ok = f0;
+    return made;
+}
+
+static inline Result_Rest_Refusal Result_Rest_Refusal_Err(paper_Refusal f0)
+{
+    Result_Rest_Refusal made;
+    made.tag = RESULT_REST_REFUSAL_ERR;
+    made.as.Err = f0;
     return made;
 }
 
@@ -253,27 +439,68 @@ static inline choosing_Choice choosing_Choice_LowEnd(choosing_Rest f0, uint32_t 
     return made;
 }
 
-static inline choosing_Choice choosing_Choice_Refusal(uint8_t f0)
+static inline Result_Choice_Refusal Result_Choice_Refusal_Ok(choosing_Choice f0)
 {
-    choosing_Choice made;
-    made.tag = CHOOSING_CHOICE_REFUSAL;
-    made.as.Refusal = f0;
+    Result_Choice_Refusal made;
+    made.tag = RESULT_CHOICE_REFUSAL_OK;
+    made.as.Ok = f0;
     return made;
 }
 
-static inline paper_Answer paper_Answer_Done(uint32_t f0)
+static inline Result_Choice_Refusal Result_Choice_Refusal_Err(paper_Refusal f0)
 {
-    paper_Answer made;
-    made.tag = PAPER_ANSWER_DONE;
-    made.as.Done = f0;
+    Result_Choice_Refusal made;
+    made.tag = RESULT_CHOICE_REFUSAL_ERR;
+    made.as.Err = f0;
     return made;
 }
 
-static inline paper_Answer paper_Answer_Refused(uint8_t f0)
+static inline Result_u32_Refusal Result_u32_Refusal_Ok(uint32_t f0)
 {
-    paper_Answer made;
-    made.tag = PAPER_ANSWER_REFUSED;
-    made.as.Refused = f0;
+    Result_u32_Refusal made;
+    made.tag = RESULT_U32_REFUSAL_OK;
+    made.as.Ok = f0;
+    return made;
+}
+
+static inline Result_u32_Refusal Result_u32_Refusal_Err(paper_Refusal f0)
+{
+    Result_u32_Refusal made;
+    made.tag = RESULT_U32_REFUSAL_ERR;
+    made.as.Err = f0;
+    return made;
+}
+
+static inline walk_Blocks walk_Blocks_of(const unsigned char *pool, size_t pool_len, uint64_t at, uint64_t end)
+{
+    walk_Blocks made;
+    made.pool = pool;
+    made.pool_len = pool_len;
+    made.at = at;
+    made.end = end;
+    return made;
+}
+
+static inline walk_Block walk_Block_of(uint64_t start, heads_Head head)
+{
+    walk_Block made;
+    made.start = start;
+    made.head = head;
+    return made;
+}
+
+static inline Option_Block Option_Block_None(void)
+{
+    Option_Block made;
+    made.tag = OPTION_BLOCK_NONE;
+    return made;
+}
+
+static inline Option_Block Option_Block_Some(walk_Block f0)
+{
+    Option_Block made;
+    made.tag = OPTION_BLOCK_SOME;
+    made.as.Some = f0;
     return made;
 }
 
@@ -333,19 +560,34 @@ static inline homing_Run homing_Run_of(uint32_t end, uint32_t blocks)
     return made;
 }
 
-static inline paper_Tally paper_Tally_Counted(paper_Figures f0)
+static inline Result_void_Refusal Result_void_Refusal_Ok(void)
 {
-    paper_Tally made;
-    made.tag = PAPER_TALLY_COUNTED;
-    made.as.Counted = f0;
+    Result_void_Refusal made;
+    made.tag = RESULT_VOID_REFUSAL_OK;
     return made;
 }
 
-static inline paper_Tally paper_Tally_Refused(uint8_t f0)
+static inline Result_void_Refusal Result_void_Refusal_Err(paper_Refusal f0)
 {
-    paper_Tally made;
-    made.tag = PAPER_TALLY_REFUSED;
-    made.as.Refused = f0;
+    Result_void_Refusal made;
+    made.tag = RESULT_VOID_REFUSAL_ERR;
+    made.as.Err = f0;
+    return made;
+}
+
+static inline Result_Figures_Refusal Result_Figures_Refusal_Ok(paper_Figures f0)
+{
+    Result_Figures_Refusal made;
+    made.tag = RESULT_FIGURES_REFUSAL_OK;
+    made.as.Ok = f0;
+    return made;
+}
+
+static inline Result_Figures_Refusal Result_Figures_Refusal_Err(paper_Refusal f0)
+{
+    Result_Figures_Refusal made;
+    made.tag = RESULT_FIGURES_REFUSAL_ERR;
+    made.as.Err = f0;
     return made;
 }
 
@@ -402,95 +644,138 @@ static inline uint32_t trailing_zeros(uint32_t x)
     return x != 0u ? zeros + 1u : zeros + 2u;
 }
 
+// ---- core: the kit that the crates are written with
+
+// `core::int::u32::min` of the kit's own library.
+static inline uint32_t core_u32_min(uint32_t a, uint32_t b)
+{
+    if (b < a) {
+        return b;
+    }
+    return a;
+}
+
+// `core::int::usize::min` of the kit's own library.
+static inline uint64_t core_usize_min(uint64_t a, uint64_t b)
+{
+    if (b < a) {
+        return b;
+    }
+    return a;
+}
+
+// `core::int::u32::max` of the kit's own library.
+static inline uint32_t core_u32_max(uint32_t a, uint32_t b)
+{
+    if (b < a) {
+        return a;
+    }
+    return b;
+}
+
+// `core::int::u32::saturating_sub` of the kit's own library.
+static inline uint32_t core_u32_saturating_sub(uint32_t a, uint32_t b)
+{
+    if (b <= a) {
+        return a - b;
+    }
+    return 0u;
+}
+
 // ---- words: little-endian words in a list of bytes, the laws once over the width; parts of such a list
 
-// A byte as a word; a cast in a function of its own asks no proof at each read.
-static inline uint32_t words_wide(uint8_t b)
+static inline uint32_t words_u32_read(const unsigned char *s, size_t s_len, uint64_t at)
 {
-    return (uint32_t)b;
+    (void)s_len;
+    const unsigned char *s_at = s + at;
+    return (uint32_t)s_at[0u] + ((uint32_t)s_at[1u] << 8) + ((uint32_t)s_at[2u] << 16) + ((uint32_t)s_at[3u] << 24);
 }
 
-// The word of 4 bytes at `at`: four plain reads, which the machine does as one. `n - 4` is the same for every read of a pool, so
-// a read costs one test.
-static inline uint32_t words_get32(const unsigned char *s, size_t s_len, uint64_t at)
+// The word at `at`. The first difference is the same for every read of a pool, so a read costs one test.
+static inline uint32_t words_get_u32(const unsigned char *s, size_t s_len, uint64_t at)
 {
     uint64_t n = s_len;
-    if (n < 4u) {
+    if (n < WORDS_U32_WIDTH) {
         return 0u;
     }
-    if (n - 4u < at) {
+    if (n - WORDS_U32_WIDTH < at) {
         return 0u;
     }
-    const unsigned char *s_at = s + at;
-    return words_wide(s_at[0u]) + (words_wide(s_at[1u]) << 8) + (words_wide(s_at[2u]) << 16) + (words_wide(s_at[3u]) << 24);
+    return words_u32_read(s, s_len, at);
 }
 
-// The word `offset` bytes past the position `at`.
+// The word of 4 bytes, `offset` bytes past the position `at`.
 static inline uint32_t words_field(const unsigned char *s, size_t s_len, uint32_t at, uint32_t offset)
 {
-    return words_get32(s, s_len, (uint64_t)at + (uint64_t)offset);
+    return words_get_u32(s, s_len, (uint64_t)at + (uint64_t)offset);
 }
 
-// The sum of 32 bits.
 static inline uint32_t words_plus(uint32_t a, uint32_t b)
 {
     return (uint32_t)(a + b);
 }
 
-// The difference of 32 bits.
 static inline uint32_t words_minus(uint32_t a, uint32_t b)
 {
     return (uint32_t)(a - b);
 }
 
-// Stores the word of 4 bytes at `at`: four plain stores, which the machine does as one.
-static inline void words_put32(unsigned char *s, size_t s_len, uint64_t at, uint32_t v)
+static inline void words_u32_write(uint32_t self, unsigned char *s, size_t s_len, uint64_t at)
 {
-    uint64_t n = s_len;
-    if (n < 4u) {
-        return;
-    }
-    if (n - 4u < at) {
-        return;
-    }
-    uint32_t v1 = v >> 8;
-    uint32_t v2 = v1 >> 8;
-    uint32_t v3 = v2 >> 8;
+    (void)s_len;
     unsigned char *s_at = s + at;
-    s_at[0u] = (uint8_t)(v % 256u);
-    s_at[1u] = (uint8_t)(v1 % 256u);
-    s_at[2u] = (uint8_t)(v2 % 256u);
-    s_at[3u] = (uint8_t)(v3 % 256u);
+    s_at[0u] = (uint8_t)(self % 256u);
+    s_at[1u] = (uint8_t)((self >> 8) % 256u);
+    s_at[2u] = (uint8_t)((self >> 16) % 256u);
+    s_at[3u] = (uint8_t)((self >> 24) % 256u);
 }
 
-// Stores the word `offset` bytes past the position `at`.
+// Stores the word at `at`.
+static inline void words_put_u32(unsigned char *s, size_t s_len, uint64_t at, uint32_t v)
+{
+    uint64_t n = s_len;
+    if (n < WORDS_U32_WIDTH) {
+        return;
+    }
+    if (n - WORDS_U32_WIDTH < at) {
+        return;
+    }
+    words_u32_write(v, s, s_len, at);
+}
+
+// Stores the word of 4 bytes, `offset` bytes past the position `at`.
 static inline void words_put_field(unsigned char *s, size_t s_len, uint32_t at, uint32_t offset, uint32_t v)
 {
-    words_put32(s, s_len, (uint64_t)at + (uint64_t)offset, v);
+    words_put_u32(s, s_len, (uint64_t)at + (uint64_t)offset, v);
 }
 
-// Stores the word of 8 bytes at `at`.
-static inline void words_put64(unsigned char *s, size_t s_len, uint64_t at, uint64_t v)
+static inline void words_u64_write(uint64_t self, unsigned char *s, size_t s_len, uint64_t at)
+{
+    words_u32_write((uint32_t)(self % 0x100000000u), s, s_len, at);
+    words_u32_write((uint32_t)(self >> 32), s, s_len, at + 4u);
+}
+
+// Stores the word at `at`.
+static inline void words_put_u64(unsigned char *s, size_t s_len, uint64_t at, uint64_t v)
 {
     uint64_t n = s_len;
-    if (n < 8u) {
+    if (n < WORDS_U64_WIDTH) {
         return;
     }
-    if (n - 8u < at) {
+    if (n - WORDS_U64_WIDTH < at) {
         return;
     }
-    words_put32(s, s_len, at, (uint32_t)(v % 0x100000000u));
-    words_put32(s, s_len, at + 4u, (uint32_t)(v >> 32));
+    words_u64_write(v, s, s_len, at);
 }
 
 // ---- heads: the head word taken apart and put together, block sizes, signed links
 
-static inline heads_Head heads_apart(uint32_t w)
+static inline heads_Head heads_Head_from_u32(uint32_t w)
 {
     return heads_Head_of(w >> 2u, ((w >> 1u) & 1u) == 1u, (w & 1u) == 1u);
 }
 
-static inline uint32_t heads_together(heads_Head h)
+static inline uint32_t heads_u32_from_Head(heads_Head h)
 {
     return ((h.size << 2u) | ((uint32_t)h.p << 1u)) | (uint32_t)h.held;
 }
@@ -498,7 +783,7 @@ static inline uint32_t heads_together(heads_Head h)
 // The head of a free block; a free block never stands above a free large one.
 static inline uint32_t heads_free_head(uint32_t size)
 {
-    return heads_together(heads_Head_of(size, 1, 0));
+    return heads_u32_from_Head(heads_Head_of(size, 1, 0));
 }
 
 // The size alone.
@@ -513,43 +798,13 @@ static inline uint32_t heads_flags_of(uint32_t w)
     return w & 3u;
 }
 
-// The signed distance that a word holds, in two's complement.
-static inline uint32_t heads_distance(uint32_t word)
-{
-    if (word < 0x80000000u) {
-        return word;
-    }
-    return (uint32_t)~(uint32_t)~word;
-}
-
-// The word that holds a signed distance.
-static inline uint32_t heads_word_of(uint32_t d)
-{
-    if ((d ^ 0x80000000u) < (0u ^ 0x80000000u)) {
-        return (uint32_t)~(uint32_t)~d;
-    }
-    return d;
-}
-
-// A start moved by a distance, in the arithmetic of 32 bits.
-static inline uint32_t heads_moved(uint32_t at, uint32_t d)
-{
-    return words_plus(at, heads_word_of(d));
-}
-
 // Where a link word leads; 0 where it leads nowhere.
 static inline uint32_t heads_follow(uint32_t from, uint32_t word)
 {
     if (word == 0u) {
         return 0u;
     }
-    return heads_moved(from, heads_distance(word));
-}
-
-// The distance from one start to another.
-static inline uint32_t heads_between(uint32_t from, uint32_t to)
-{
-    return heads_distance(words_minus(to, from));
+    return words_plus(from, word);
 }
 
 // The link word from a block to another; 0 where there is none.
@@ -558,29 +813,19 @@ static inline uint32_t heads_link_word(uint32_t from, uint32_t to)
     if (to == 0u) {
         return 0u;
     }
-    return heads_word_of(heads_between(from, to));
-}
-
-// The distance back. The least number of 32 bits has no opposite and stays.
-static inline uint32_t heads_back(uint32_t d)
-{
-    if (d == 0x80000000u) {
-        return d;
-    }
-    return (uint32_t)(0u - d);
+    return words_minus(to, from);
 }
 
 static inline heads_Pair heads_both_ways(uint32_t from, uint32_t to)
 {
-    uint32_t d = heads_between(from, to);
-    return heads_Pair_of(heads_word_of(d), heads_word_of(heads_back(d)));
+    return heads_Pair_of(words_minus(to, from), words_minus(from, to));
 }
 
 // The same head with another P, for the block above one that changed.
 static inline uint32_t heads_with_p(uint32_t w, int p)
 {
-    heads_Head h = heads_apart(w);
-    return heads_together(heads_Head_of(h.size, p, h.held));
+    heads_Head value = heads_Head_from_u32(w);
+    return heads_u32_from_Head(heads_Head_of(value.size, p, value.held));
 }
 
 // The block size for a payload of s bytes: exact for every s, so it may need 33 bits.
@@ -589,10 +834,10 @@ static inline uint64_t heads_block_size(uint32_t s)
     return (((uint64_t)s + 4u + 7u) >> 3) << 3;
 }
 
-// The head of a held block above no free large block.
+// The head of a held block above no free large block. It and `free_head` differ in a flag alone, and stay two: `true` at a call would say less.
 static inline uint32_t heads_held_head(uint32_t size)
 {
-    return heads_together(heads_Head_of(size, 1, 1));
+    return heads_u32_from_Head(heads_Head_of(size, 1, 1));
 }
 
 // ---- classes: the class of a payload, and the 53 class sizes that it is held to
@@ -612,6 +857,37 @@ static inline uint32_t classes_class_of(uint32_t payload)
     uint32_t place = 29u - leading_zeros(less_one);
     uint32_t top = less_one >> place;
     return (place << 2) + top - 7u;
+}
+
+// ---- paper: what a reader must believe (specs): blocks, governed words, sound, the rules, the answers; and the laws of states and sheets (proofs)
+
+static inline uint8_t paper_u8_from_Refusal(paper_Refusal refusal)
+{
+    if (refusal.tag == PAPER_REFUSAL_NOT_ALLOWED) {
+        return 1u;
+    } else if (refusal.tag == PAPER_REFUSAL_NOT_SOUND) {
+        return 2u;
+    } else if (refusal.tag == PAPER_REFUSAL_NO_SIZE) {
+        return 3u;
+    } else if (refusal.tag == PAPER_REFUSAL_NO_ROOM) {
+        return 4u;
+    } else if (refusal.tag == PAPER_REFUSAL_NOT_HELD) {
+        return 5u;
+    } else if (refusal.tag == PAPER_REFUSAL_LIST_LENGTH) {
+        return 6u;
+    } else if (refusal.tag == PAPER_REFUSAL_UNREADABLE) {
+        return 7u;
+    } else if (refusal.tag == PAPER_REFUSAL_NO_LAYOUT) {
+        return 8u;
+    } else if (refusal.tag == PAPER_REFUSAL_NO_PISTON) {
+        return 10u;
+    } else if (refusal.tag == PAPER_REFUSAL_NO_RECORD) {
+        return 11u;
+    } else if (refusal.tag == PAPER_REFUSAL_NOT_NAMED) {
+        return 12u;
+    } else {
+        return 13u;
+    }
 }
 
 // ---- levels: how high the index over the bins is, and up to which level a bin stands in it
@@ -640,11 +916,7 @@ static inline uint32_t levels_height(uint32_t top, uint32_t size)
     if (top == 1u) {
         return 1u;
     }
-    uint32_t zeros = trailing_zeros(size >> 3);
-    if (zeros < top) {
-        return zeros + 1u;
-    }
-    return top;
+    return core_u32_min(top, trailing_zeros(size >> 3) + 1u);
 }
 
 // The level to look for a bin from: the least size on level j is 8 x 2^(j - 1), so no smaller bin stands higher.
@@ -657,33 +929,28 @@ static inline uint32_t levels_start(uint32_t top, uint32_t size)
     if (bits == 0u) {
         return top;
     }
-    if (top < bits) {
-        return top;
-    }
-    return bits;
+    return core_u32_min(top, bits);
 }
 
 // ---- laying: a buffer is laid out, in either layout
 
-// How high the index of a layout is: of layout 1 and of layout 2; 0 of a number that names none.
-static inline uint32_t laying_top_of(uint32_t layout)
+// How high the index of a layout is, of layout 1 and of layout 2; no other number names one.
+static inline Option_u32 laying_top_of(uint32_t layout)
 {
     if (layout == 1u) {
-        return 1u;
+        return Option_u32_Some(1u);
+    } else if (layout == 2u) {
+        return Option_u32_Some(PAPER_LEVELS);
+    } else {
+        return Option_u32_None();
     }
-    if (layout == 2u) {
-        return PAPER_LEVELS;
-    }
-    return 0u;
 }
 
 // The header and the false block are zeros.
 static inline void laying_clear(unsigned char *pool, size_t pool_len)
 {
-    uint64_t k = 0u;
-    while (k < 42u) {
-        words_put32(pool, pool_len, k << 2, 0u);
-        k = k + 1u;
+    for (uint64_t k = 0u; k < 42u; k++) {
+        words_put_u32(pool, pool_len, k << 2, 0u);
     }
 }
 
@@ -693,12 +960,12 @@ static inline void laying_lay_out(unsigned char *pool, size_t pool_len, uint32_t
 {
     uint32_t rest = words_minus(n, PAPER_BLOCKS);
     laying_clear(pool, pool_len);
-    words_put64(pool, pool_len, PAPER_FREE_WORD, (uint64_t)words_minus(rest, 4u));
-    words_put64(pool, pool_len, PAPER_FALSE_WORD, (uint64_t)PAPER_FALSE_BLOCK);
-    words_put64(pool, pool_len, PAPER_START, (uint64_t)PAPER_BLOCKS);
-    words_put64(pool, pool_len, PAPER_END, (uint64_t)n);
+    words_put_u64(pool, pool_len, PAPER_FREE_WORD, (uint64_t)words_minus(rest, 4u));
+    words_put_u64(pool, pool_len, PAPER_FALSE_WORD, (uint64_t)PAPER_FALSE_BLOCK);
+    words_put_u64(pool, pool_len, PAPER_START, (uint64_t)PAPER_BLOCKS);
+    words_put_u64(pool, pool_len, PAPER_END, (uint64_t)n);
     words_put_field(pool, pool_len, PAPER_FALSE_BLOCK, PAPER_LEVEL, top);
-    words_put32(pool, pool_len, (uint64_t)PAPER_BLOCKS, heads_free_head(rest));
+    words_put_u32(pool, pool_len, (uint64_t)PAPER_BLOCKS, heads_free_head(rest));
 }
 
 // ---- marks: a set of places as bits
@@ -722,19 +989,21 @@ static inline void marks_mark(uint64_t *m, size_t m_len, uint32_t q)
 static inline int marks_has(const uint64_t *s, size_t s_len, uint64_t i)
 {
     uint64_t q = i >> 6;
-    if (q < s_len) {
-        return (s[q] >> (i % 64u)) % 2u == 1u;
+    int value = q < s_len;
+    if (value) {
+        value = (s[q] >> (i % 64u)) % 2u == 1u;
     }
-    return 0;
+    return value;
 }
 
 // Whether the start q is marked.
 static inline int marks_marked(const uint64_t *m, size_t m_len, uint32_t q)
 {
-    if (q % 8u == 0u) {
-        return marks_has(m, m_len, (uint64_t)(q >> 3));
+    int value = q % 8u == 0u;
+    if (value) {
+        value = marks_has(m, m_len, (uint64_t)(q >> 3));
     }
-    return 0;
+    return value;
 }
 
 // Clears bit i.
@@ -742,8 +1011,7 @@ static inline void marks_take_out(uint64_t *s, size_t s_len, uint64_t i)
 {
     uint64_t q = i >> 6;
     if (q < s_len) {
-        uint64_t w = s[q];
-        s[q] = w - (w & ((uint64_t)1u << (i % 64u)));
+        s[q] = s[q] - (s[q] & ((uint64_t)1u << (i % 64u)));
     }
 }
 
@@ -776,19 +1044,15 @@ static inline int header_remainder_ok(const unsigned char *pool, size_t pool_len
     if (b % 8u != 0u) {
         return 0;
     }
-    return words_get32(pool, pool_len, (uint64_t)a) == heads_free_head(b - a);
+    return words_get_u32(pool, pool_len, (uint64_t)a) == heads_free_head(b - a);
 }
 
 // Whether k words from `from` on, `step` bytes apart, are 0: one test for all of them.
 static inline int header_zeros(const unsigned char *pool, size_t pool_len, uint32_t k, uint32_t step, uint32_t from)
 {
     uint32_t all = 0u;
-    uint32_t left = k;
-    uint64_t at = (uint64_t)from;
-    while (left != 0u) {
-        all = all | words_get32(pool, pool_len, at);
-        left = left - 1u;
-        at = at + (uint64_t)step;
+    for (uint32_t i = 0u; i < k; i++) {
+        all = all | words_field(pool, pool_len, from, i * step);
     }
     return all == 0u;
 }
@@ -814,7 +1078,7 @@ static inline int header_false_block_ok(const unsigned char *pool, size_t pool_l
     if (pool_len < (uint64_t)PAPER_BLOCKS) {
         return 0;
     }
-    if (words_get32(pool, pool_len, 8u) != PAPER_FALSE_BLOCK) {
+    if (words_get_u32(pool, pool_len, 8u) != PAPER_FALSE_BLOCK) {
         return 0;
     }
     if (words_field(pool, pool_len, PAPER_FALSE_BLOCK, (uint32_t)PAPER_CHAIN + 4u) != 0u) {
@@ -840,10 +1104,15 @@ static inline int header_link_ok(uint32_t q, uint32_t w)
 
 // ---- runs: along the blocks, large and small; the free ones are marked
 
-// A block of size z at p, in a run of large blocks that ends at e.
-static inline int runs_fits_large(uint32_t z, uint32_t e, uint32_t p)
+static inline int runs_Large_has(uint32_t z)
 {
-    if (z < PAPER_LARGE) {
+    return PAPER_LARGE <= z;
+}
+
+// A block of size z at p, in a run that ends at e.
+static inline int runs_fits_Large(uint32_t z, uint32_t e, uint32_t p)
+{
+    if (!runs_Large_has(z)) {
         return 0;
     }
     if (z % 8u != 0u) {
@@ -852,8 +1121,14 @@ static inline int runs_fits_large(uint32_t z, uint32_t e, uint32_t p)
     return (uint64_t)p + (uint64_t)z <= (uint64_t)e;
 }
 
-// The head w at p of a block that is not held, where the flags `due` were: a large one repeats its head at its end.
-static inline int runs_free_ok(const unsigned char *pool, size_t pool_len, uint32_t w, uint32_t due, uint32_t p)
+static inline int runs_Large_ends(const unsigned char *pool, size_t pool_len, uint32_t w, uint32_t p)
+{
+    uint32_t z = heads_size_of(w);
+    return words_field(pool, pool_len, p, z - 4u) == w;
+}
+
+// The head w at p of a block that is not held, where the flags `due` were.
+static inline int runs_free_ok_Large(const unsigned char *pool, size_t pool_len, uint32_t w, uint32_t due, uint32_t p)
 {
     if (due != HEADS_HELD) {
         return 0;
@@ -861,50 +1136,60 @@ static inline int runs_free_ok(const unsigned char *pool, size_t pool_len, uint3
     if (heads_flags_of(w) != HEADS_FREE) {
         return 0;
     }
-    uint32_t z = heads_size_of(w);
-    if (z < PAPER_LARGE) {
-        return 1;
-    }
-    return words_field(pool, pool_len, p, z - 4u) == w;
+    return runs_Large_ends(pool, pool_len, w, p);
 }
 
-// The large blocks up to e. `due` is what the flags of a held block must be here. A free block needs them to have P, so no two free ones touch.
-static inline runs_Seen runs_scan_large(const unsigned char *pool, size_t pool_len, uint64_t *m, size_t m_len, uint32_t e)
+static inline uint32_t runs_Large_above_free(void)
 {
-    uint32_t p = PAPER_BLOCKS;
+    return HEADS_HELD_ABOVE_FREE;
+}
+
+// The blocks of one kind from `from` to e; `before` is what was seen before them. `due` is what the flags of a held block must be here. A free block
+// needs them to have P, so no two free ones touch. Among small blocks each has P: there `due` is a constant, as are the bounds of a size, and this
+// loop is what an inspection mostly does.
+static inline Option_Seen runs_scan_Large(const unsigned char *pool, size_t pool_len, uint64_t *m, size_t m_len, uint32_t from,
+        uint32_t e, runs_Seen before)
+{
+    uint32_t p = from;
     uint32_t due = HEADS_HELD;
-    uint64_t n = 0u;
-    uint64_t sum = 0u;
+    runs_Seen seen = before;
     while (p != e) {
-        uint32_t w = words_get32(pool, pool_len, (uint64_t)p);
+        uint32_t w = words_get_u32(pool, pool_len, (uint64_t)p);
         uint32_t z = heads_size_of(w);
-        if (!runs_fits_large(z, e, p)) {
-            return runs_Seen_of(0, 0u, 0u);
+        if (!runs_fits_Large(z, e, p)) {
+            return Option_Seen_None();
         }
         if (heads_flags_of(w) == due) {
             due = HEADS_HELD;
-            p = p + z;
-            continue;
+        } else {
+            if (!runs_free_ok_Large(pool, pool_len, w, due, p)) {
+                return Option_Seen_None();
+            }
+            marks_mark(m, m_len, p);
+            seen.count = seen.count + 1u;
+            seen.sum = seen.sum + (uint64_t)z;
+            due = runs_Large_above_free();
         }
-        if (!runs_free_ok(pool, pool_len, w, due, p)) {
-            return runs_Seen_of(0, 0u, 0u);
-        }
-        marks_mark(m, m_len, p);
-        n = n + 1u;
-        sum = sum + (uint64_t)z;
-        due = 1u;
         p = p + z;
     }
-    return runs_Seen_of(due == HEADS_HELD, n, sum);
+    if (due != HEADS_HELD) {
+        return Option_Seen_None();
+    }
+    return Option_Seen_Some(seen);
 }
 
-// A block of size z at p, in a run of small blocks that ends at e.
-static inline int runs_fits_small(uint32_t z, uint32_t e, uint32_t p)
+static inline int runs_Small_has(uint32_t z)
 {
     if (z < 8u) {
         return 0;
     }
-    if (PAPER_LARGE <= z) {
+    return z < PAPER_LARGE;
+}
+
+// A block of size z at p, in a run that ends at e.
+static inline int runs_fits_Small(uint32_t z, uint32_t e, uint32_t p)
+{
+    if (!runs_Small_has(z)) {
         return 0;
     }
     if (z % 8u != 0u) {
@@ -913,45 +1198,77 @@ static inline int runs_fits_small(uint32_t z, uint32_t e, uint32_t p)
     return (uint64_t)p + (uint64_t)z <= (uint64_t)e;
 }
 
-// The small blocks from `from` to e. Each has P, so the walk carries no flag; with that, and with tests of constants, this loop
-// is what an inspection mostly does.
-static inline runs_Seen runs_scan_small(const unsigned char *pool, size_t pool_len, uint64_t *m, size_t m_len, uint32_t e,
-        uint32_t from, uint32_t n0, uint32_t sum0)
+static inline int runs_Small_ends(const unsigned char *_pool, size_t _pool_len, uint32_t _w, uint32_t _p)
+{
+    (void)_pool;
+    (void)_pool_len;
+    (void)_w;
+    (void)_p;
+    return 1;
+}
+
+// The head w at p of a block that is not held, where the flags `due` were.
+static inline int runs_free_ok_Small(const unsigned char *pool, size_t pool_len, uint32_t w, uint32_t due, uint32_t p)
+{
+    if (due != HEADS_HELD) {
+        return 0;
+    }
+    if (heads_flags_of(w) != HEADS_FREE) {
+        return 0;
+    }
+    return runs_Small_ends(pool, pool_len, w, p);
+}
+
+static inline uint32_t runs_Small_above_free(void)
+{
+    return HEADS_HELD;
+}
+
+// The blocks of one kind from `from` to e; `before` is what was seen before them. `due` is what the flags of a held block must be here. A free block
+// needs them to have P, so no two free ones touch. Among small blocks each has P: there `due` is a constant, as are the bounds of a size, and this
+// loop is what an inspection mostly does.
+static inline Option_Seen runs_scan_Small(const unsigned char *pool, size_t pool_len, uint64_t *m, size_t m_len, uint32_t from,
+        uint32_t e, runs_Seen before)
 {
     uint32_t p = from;
-    uint64_t n = (uint64_t)n0;
-    uint64_t sum = (uint64_t)sum0;
+    uint32_t due = HEADS_HELD;
+    runs_Seen seen = before;
     while (p != e) {
-        uint32_t w = words_get32(pool, pool_len, (uint64_t)p);
+        uint32_t w = words_get_u32(pool, pool_len, (uint64_t)p);
         uint32_t z = heads_size_of(w);
-        if (!runs_fits_small(z, e, p)) {
-            return runs_Seen_of(0, 0u, 0u);
+        if (!runs_fits_Small(z, e, p)) {
+            return Option_Seen_None();
         }
-        uint32_t flags = heads_flags_of(w);
-        if (flags == HEADS_HELD) {
-            p = p + z;
-            continue;
+        if (heads_flags_of(w) == due) {
+            due = HEADS_HELD;
+        } else {
+            if (!runs_free_ok_Small(pool, pool_len, w, due, p)) {
+                return Option_Seen_None();
+            }
+            marks_mark(m, m_len, p);
+            seen.count = seen.count + 1u;
+            seen.sum = seen.sum + (uint64_t)z;
+            due = runs_Small_above_free();
         }
-        if (flags != HEADS_FREE) {
-            return runs_Seen_of(0, 0u, 0u);
-        }
-        marks_mark(m, m_len, p);
-        n = n + 1u;
-        sum = sum + (uint64_t)z;
         p = p + z;
     }
-    return runs_Seen_of(1, n, sum);
+    if (due != HEADS_HELD) {
+        return Option_Seen_None();
+    }
+    return Option_Seen_Some(seen);
 }
 
 // The large blocks up to a, then the small ones from b to e.
-static inline runs_Seen runs_scan_both(const unsigned char *pool, size_t pool_len, uint64_t *m, size_t m_len, uint32_t a,
+static inline Option_Seen runs_scan_both(const unsigned char *pool, size_t pool_len, uint64_t *m, size_t m_len, uint32_t a,
         uint32_t b, uint32_t e)
 {
-    runs_Seen lo = runs_scan_large(pool, pool_len, m, m_len, a);
-    if (!lo.ok) {
-        return lo;
+    runs_Seen none = runs_Seen_of(0u, 0u);
+    Option_Seen value = runs_scan_Large(pool, pool_len, m, m_len, PAPER_BLOCKS, a, none);
+    if (value.tag != OPTION_SEEN_SOME) {
+        return Option_Seen_None();
     }
-    return runs_scan_small(pool, pool_len, m, m_len, e, b, (uint32_t)lo.count, (uint32_t)lo.sum);
+    runs_Seen low = value.as.Some;
+    return runs_scan_Small(pool, pool_len, m, m_len, b, e, low);
 }
 
 // ---- lists: along the lists of the bins; each member loses its mark
@@ -959,64 +1276,70 @@ static inline runs_Seen runs_scan_both(const unsigned char *pool, size_t pool_le
 // The size of the block at q, by its head.
 static inline uint32_t lists_size_at(const unsigned char *pool, size_t pool_len, uint32_t q)
 {
-    return heads_size_of(words_get32(pool, pool_len, (uint64_t)q));
+    return heads_size_of(words_get_u32(pool, pool_len, (uint64_t)q));
 }
 
-// The member q of the small bin of size z: its mark and its head.
-static inline int lists_small_ok(const unsigned char *pool, size_t pool_len, const uint64_t *m, size_t m_len, uint32_t z,
-        uint32_t q)
+// A member of a small bin has its bin's size.
+static inline int lists_Small_member_ok(const unsigned char *pool, size_t pool_len, uint32_t z, uint32_t _p, uint32_t q)
 {
-    if (!marks_marked(m, m_len, q)) {
-        return 0;
-    }
+    (void)_p;
     return lists_size_at(pool, pool_len, q) == z;
 }
 
-// The small bin of size z from `first` on.
-static inline lists_Left lists_follow_small(const unsigned char *pool, size_t pool_len, uint64_t *m, size_t m_len, uint64_t k,
+static inline uint32_t lists_Small_next(const unsigned char *pool, size_t pool_len, uint32_t q)
+{
+    return words_field(pool, pool_len, q, PAPER_SMALL_NEXT);
+}
+
+// The bin of size z from `first` on, where k starts are marked: how many are left; p is the member before q, 0 before the first.
+static inline Option_u64 lists_follow_Small(const unsigned char *pool, size_t pool_len, uint64_t *m, size_t m_len, uint64_t k,
         uint32_t z, uint32_t first)
 {
     uint64_t left = k;
+    uint32_t p = 0u;
     uint32_t q = first;
     while (q != 0u) {
         if (left == 0u) {
-            return lists_Left_of(0, 0u);
+            return Option_u64_None();
         }
-        if (!lists_small_ok(pool, pool_len, m, m_len, z, q)) {
-            return lists_Left_of(0, 0u);
+        if (!marks_marked(m, m_len, q)) {
+            return Option_u64_None();
+        }
+        if (!lists_Small_member_ok(pool, pool_len, z, p, q)) {
+            return Option_u64_None();
         }
         marks_unmark(m, m_len, q);
         left = left - 1u;
-        q = words_field(pool, pool_len, q, PAPER_SMALL_NEXT);
+        p = q;
+        q = lists_Small_next(pool, pool_len, q);
     }
-    return lists_Left_of(1, left);
+    return Option_u64_Some(left);
 }
 
 // The eight small bins, whose first blocks stand in the header.
-static inline lists_Left lists_small_bins(const unsigned char *pool, size_t pool_len, uint64_t *m, size_t m_len, uint64_t k)
+static inline Option_u64 lists_small_bins(const unsigned char *pool, size_t pool_len, uint64_t *m, size_t m_len, uint64_t k)
 {
     uint64_t left = k;
-    uint32_t z = 8u;
-    while (z != PAPER_LARGE) {
+    for (uint32_t z = 8u; z < PAPER_LARGE; z += 8u) {
         uint32_t f = words_field(pool, pool_len, z, PAPER_SMALL_BINS);
-        lists_Left r = lists_follow_small(pool, pool_len, m, m_len, left, z, f);
-        if (!r.ok) {
-            return lists_Left_of(0, 0u);
+        Option_u64 value = lists_follow_Small(pool, pool_len, m, m_len, left, z, f);
+        if (value.tag != OPTION_U64_SOME) {
+            return Option_u64_None();
         }
-        left = r.left;
-        z = z + 8u;
+        left = value.as.Some;
     }
-    return lists_Left_of(1, left);
+    return Option_u64_Some(left);
 }
 
 // Levels 2 to h: each awaits the block f, whose word there is a link to the next. No level is above 13.
+// (`2..=h` would ask once more on each level: 0.8 in 100 instructions of an inspection where many bins are in layout 2.)
 static inline int lists_higher_ok(const unsigned char *pool, size_t pool_len, uint32_t waits[12], uint32_t h, uint32_t f)
 {
     if (PAPER_LEVELS < h) {
         return 0;
     }
     uint32_t level = 2u;
-    while (level <= h) {
+    while (level < h + 1u) {
         uint64_t i = (uint64_t)(level - 2u);
         if (waits[i] != f) {
             return 0;
@@ -1057,14 +1380,9 @@ static inline int lists_first_ok(const unsigned char *pool, size_t pool_len, uin
     return lists_index_ok(pool, pool_len, waits, h, f);
 }
 
-// The member q after p of the large bin of size z: its mark, its head, its link back and its link on, each read when the one before has
-// passed.
-static inline int lists_large_ok(const unsigned char *pool, size_t pool_len, const uint64_t *m, size_t m_len, uint32_t z,
-        uint32_t p, uint32_t q)
+// A member of a large bin: its head, its link back and its link on, each read when the one before has passed.
+static inline int lists_Large_member_ok(const unsigned char *pool, size_t pool_len, uint32_t z, uint32_t p, uint32_t q)
 {
-    if (!marks_marked(m, m_len, q)) {
-        return 0;
-    }
     if (lists_size_at(pool, pool_len, q) != z) {
         return 0;
     }
@@ -1074,8 +1392,13 @@ static inline int lists_large_ok(const unsigned char *pool, size_t pool_len, con
     return header_link_ok(q, words_field(pool, pool_len, q, PAPER_NEXT));
 }
 
-// The large bin of size z from `first` on; p is the member before q, 0 before the first.
-static inline lists_Left lists_follow_large(const unsigned char *pool, size_t pool_len, uint64_t *m, size_t m_len, uint64_t k,
+static inline uint32_t lists_Large_next(const unsigned char *pool, size_t pool_len, uint32_t q)
+{
+    return heads_follow(q, words_field(pool, pool_len, q, PAPER_NEXT));
+}
+
+// The bin of size z from `first` on, where k starts are marked: how many are left; p is the member before q, 0 before the first.
+static inline Option_u64 lists_follow_Large(const unsigned char *pool, size_t pool_len, uint64_t *m, size_t m_len, uint64_t k,
         uint32_t z, uint32_t first)
 {
     uint64_t left = k;
@@ -1083,28 +1406,30 @@ static inline lists_Left lists_follow_large(const unsigned char *pool, size_t po
     uint32_t q = first;
     while (q != 0u) {
         if (left == 0u) {
-            return lists_Left_of(0, 0u);
+            return Option_u64_None();
         }
-        if (!lists_large_ok(pool, pool_len, m, m_len, z, p, q)) {
-            return lists_Left_of(0, 0u);
+        if (!marks_marked(m, m_len, q)) {
+            return Option_u64_None();
+        }
+        if (!lists_Large_member_ok(pool, pool_len, z, p, q)) {
+            return Option_u64_None();
         }
         marks_unmark(m, m_len, q);
         left = left - 1u;
         p = q;
-        q = heads_follow(q, words_field(pool, pool_len, q, PAPER_NEXT));
+        q = lists_Large_next(pool, pool_len, q);
     }
-    return lists_Left_of(1, left);
+    return Option_u64_Some(left);
 }
 
 // Whether no level from 2 on awaits anything.
 static inline int lists_none_awaited(const uint32_t waits[12])
 {
-    uint64_t i = 0u;
-    while (i < 12u) {
-        if (waits[i] != 0u) {
+    for (uint64_t i = 0u; i < 12u; i++) {
+        uint32_t start = waits[i];
+        if (start != 0u) {
             return 0;
         }
-        i = i + 1u;
     }
     return 1;
 }
@@ -1131,11 +1456,12 @@ static inline int lists_large_bins(const unsigned char *pool, size_t pool_len, u
         if (!lists_first_ok(pool, pool_len, waits, top, y, z, f)) {
             return 0;
         }
-        lists_Left r = lists_follow_large(pool, pool_len, m, m_len, left, z, f);
-        if (!r.ok) {
+        Option_u64 value = lists_follow_Large(pool, pool_len, m, m_len, left, z, f);
+        if (value.tag != OPTION_U64_SOME) {
             return 0;
         }
-        left = r.left;
+        uint64_t rest = value.as.Some;
+        left = rest;
         y = z;
         f = heads_follow(f, words_field(pool, pool_len, f, 64u));
     }
@@ -1148,10 +1474,11 @@ static inline int lists_large_bins(const unsigned char *pool, size_t pool_len, u
 // All the lists, where k starts are marked: at the end no mark is left. At first every level of the index awaits the false block.
 static inline int lists_all_listed(const unsigned char *pool, size_t pool_len, uint64_t *m, size_t m_len, uint64_t k)
 {
-    lists_Left r = lists_small_bins(pool, pool_len, m, m_len, k);
-    if (!r.ok) {
+    Option_u64 value = lists_small_bins(pool, pool_len, m, m_len, k);
+    if (value.tag != OPTION_U64_SOME) {
         return 0;
     }
+    uint64_t left = value.as.Some;
     uint32_t top = levels_top(pool, pool_len);
     uint32_t waits[12];
     for (size_t each = 0u; each < 12u; each++) {
@@ -1161,7 +1488,7 @@ static inline int lists_all_listed(const unsigned char *pool, size_t pool_len, u
         return 0;
     }
     uint32_t f = heads_follow(PAPER_FALSE_BLOCK, words_field(pool, pool_len, PAPER_FALSE_BLOCK, PAPER_CHAIN));
-    return lists_large_bins(pool, pool_len, m, m_len, waits, r.left, top, f);
+    return lists_large_bins(pool, pool_len, m, m_len, waits, left, top, f);
 }
 
 // ---- inspect: whether a pool is sound
@@ -1181,11 +1508,11 @@ static inline int inspect_allowed(uint64_t n)
 // Whether the pool ends at E or the block there is held (request 2026-06): of a pool that is sound by the old rule, exactly whether it is sound.
 static inline int inspect_edge_held(const unsigned char *pool, size_t pool_len)
 {
-    uint64_t e = (uint64_t)words_get32(pool, pool_len, PAPER_END);
+    uint64_t e = (uint64_t)words_get_u32(pool, pool_len, PAPER_END);
     if (e == pool_len) {
         return 1;
     }
-    return heads_apart(words_get32(pool, pool_len, e)).held;
+    return heads_Head_from_u32(words_get_u32(pool, pool_len, e)).held;
 }
 
 // The tests of the old rule, the cheap ones first. A mark is one bit for each 8 bytes of the pool.
@@ -1194,8 +1521,8 @@ static inline int inspect_inspect(const unsigned char *pool, size_t pool_len)
     if (!inspect_allowed(pool_len)) {
         return 0;
     }
-    uint32_t a = words_get32(pool, pool_len, PAPER_START);
-    uint32_t b = words_get32(pool, pool_len, PAPER_END);
+    uint32_t a = words_get_u32(pool, pool_len, PAPER_START);
+    uint32_t b = words_get_u32(pool, pool_len, PAPER_END);
     if (!header_remainder_ok(pool, pool_len, a, b)) {
         return 0;
     }
@@ -1206,14 +1533,15 @@ static inline int inspect_inspect(const unsigned char *pool, size_t pool_len)
     for (size_t each = 0u; each < 128u; each++) {
         m[each] = 0u;
     }
-    runs_Seen t = runs_scan_both(pool, pool_len, m, 128u, a, b, (uint32_t)pool_len);
-    if (!t.ok) {
+    Option_Seen value = runs_scan_both(pool, pool_len, m, 128u, a, b, (uint32_t)pool_len);
+    if (value.tag != OPTION_SEEN_SOME) {
         return 0;
     }
-    if ((uint64_t)words_get32(pool, pool_len, 0u) != t.sum + (uint64_t)(b - a) - 4u) {
+    runs_Seen seen = value.as.Some;
+    if ((uint64_t)words_get_u32(pool, pool_len, 0u) != seen.sum + (uint64_t)(b - a) - 4u) {
         return 0;
     }
-    return lists_all_listed(pool, pool_len, m, 128u, t.count);
+    return lists_all_listed(pool, pool_len, m, 128u, seen.count);
 }
 
 // Whether the pool is sound by the old rule, under which a free block could stand at E: exactly that. The rule in force asks one thing more.
@@ -1246,7 +1574,12 @@ static inline void bins_leave_later(unsigned char *pool, size_t pool_len, uint32
 // The size in the head of the block at q.
 static inline uint32_t bins_size_of(const unsigned char *pool, size_t pool_len, uint32_t q)
 {
-    return heads_apart(words_get32(pool, pool_len, (uint64_t)q)).size;
+    return heads_Head_from_u32(words_get_u32(pool, pool_len, (uint64_t)q)).size;
+}
+
+static inline bins_Bin bins_Bin_bare(uint32_t level, uint32_t before)
+{
+    return bins_Bin_of(level, before, 0u, 0u);
 }
 
 // Along one level, from where the one above was left: up to the last bin that is smaller than `least`. What came next there comes next here
@@ -1264,7 +1597,7 @@ static inline bins_Bin bins_along(const unsigned char *pool, size_t pool_len, ui
             return bins_Bin_of(level, before, first, size);
         }
         if (size <= below) {
-            return bins_Bin_of(level, before, 0u, 0u);
+            return bins_Bin_bare(level, before);
         }
         before = first;
         below = size;
@@ -1276,8 +1609,8 @@ static inline bins_Bin bins_along(const unsigned char *pool, size_t pool_len, ui
 // The same level by level, down to the level `to`.
 static inline bins_Bin bins_down(const unsigned char *pool, size_t pool_len, bins_Bin bin, uint32_t to, uint32_t least)
 {
-    uint32_t level = bin.level;
     bins_Bin at = bin;
+    uint32_t level = bin.level;
     while (to < level) {
         level = level - 1u;
         at = bins_along(pool, pool_len, level, at, least);
@@ -1289,7 +1622,7 @@ static inline bins_Bin bins_down(const unsigned char *pool, size_t pool_len, bin
 static inline bins_Bin bins_search(const unsigned char *pool, size_t pool_len, uint32_t level, uint32_t before, uint32_t to,
         uint32_t least)
 {
-    bins_Bin at = bins_along(pool, pool_len, level, bins_Bin_of(level, before, 0u, 0u), least);
+    bins_Bin at = bins_along(pool, pool_len, level, bins_Bin_bare(level, before), least);
     return bins_down(pool, pool_len, at, to, least);
 }
 
@@ -1326,13 +1659,13 @@ static inline void bins_relink(unsigned char *pool, size_t pool_len, uint32_t le
 // On each level the walk goes on from where it stands.
 static inline void bins_rehead(unsigned char *pool, size_t pool_len, bins_Bin bin, uint32_t size, uint32_t old, uint32_t new_)
 {
-    uint32_t level = bin.level;
     uint32_t before = bin.before;
+    uint32_t level = bin.level;
     while (1u < level) {
-        bins_relink(pool, pool_len, level, before, old, new_);
         level = level - 1u;
-        bins_Bin at = bins_along(pool, pool_len, level, bins_Bin_of(level, before, old, size), size);
-        before = at.before;
+        bins_relink(pool, pool_len, level + 1u, before, old, new_);
+        bins_Bin from = bins_Bin_of(level, before, old, size);
+        before = bins_along(pool, pool_len, level, from, size).before;
     }
     bins_relink(pool, pool_len, 1u, before, old, new_);
 }
@@ -1368,8 +1701,8 @@ static inline void bins_make_free(unsigned char *pool, size_t pool_len, uint32_t
 {
     uint32_t head = heads_free_head(size);
     uint32_t foot = words_minus(words_plus(q, size), 4u);
-    words_put32(pool, pool_len, (uint64_t)q, head);
-    words_put32(pool, pool_len, (uint64_t)foot, head);
+    words_put_u32(pool, pool_len, (uint64_t)q, head);
+    words_put_u32(pool, pool_len, (uint64_t)foot, head);
 }
 
 // The block q becomes the second of the bin that `first` heads.
@@ -1419,11 +1752,10 @@ static inline void bins_enter(unsigned char *pool, size_t pool_len, uint32_t q, 
 static inline void bins_keep(const unsigned char *pool, size_t pool_len, uint32_t q, uint32_t offset, uint32_t *kept,
         size_t kept_len)
 {
-    uint64_t i = 0u;
     uint32_t at = offset;
-    while (i < kept_len) {
-        kept[i] = words_field(pool, pool_len, q, at);
-        i = i + 1u;
+    for (uint64_t i = 0u; i < kept_len; i++) {
+        uint32_t *word = kept + i;
+        *word = words_field(pool, pool_len, q, at);
         at = words_plus(at, 4u);
     }
 }
@@ -1431,11 +1763,10 @@ static inline void bins_keep(const unsigned char *pool, size_t pool_len, uint32_
 static inline void bins_put_back(unsigned char *pool, size_t pool_len, uint32_t q, uint32_t offset, const uint32_t *kept,
         size_t kept_len)
 {
-    uint64_t i = 0u;
     uint32_t at = offset;
-    while (i < kept_len) {
-        words_put_field(pool, pool_len, q, at, kept[i]);
-        i = i + 1u;
+    for (uint64_t i = 0u; i < kept_len; i++) {
+        const uint32_t *word = kept + i;
+        words_put_field(pool, pool_len, q, at, *word);
         at = words_plus(at, 4u);
     }
 }
@@ -1469,9 +1800,9 @@ static inline int bins_empty(const unsigned char *pool, size_t pool_len)
 }
 
 // The size of the bin that was found, 0 where there is none.
-static inline uint32_t bins_size(bins_Bin bin)
+static inline uint32_t bins_Bin_size(bins_Bin self)
 {
-    return bin.size;
+    return self.size;
 }
 
 // The smallest bin of at least a size, where `bin` was found for a smaller one: the way up to that is not walked again.
@@ -1487,9 +1818,9 @@ static inline bins_Bin bins_find_on(const unsigned char *pool, size_t pool_len, 
 }
 
 // No bin was found.
-static inline int bins_none(bins_Bin bin)
+static inline int bins_Bin_is_none(bins_Bin self)
 {
-    return bin.first == 0u;
+    return self.first == 0u;
 }
 
 // The only block of a bin: the index passes over it. A bin that was found below its highest level is looked for once more.
@@ -1527,13 +1858,14 @@ static inline void moving_stand(unsigned char *pool, size_t pool_len, uint32_t l
         return;
     }
     words_put_field(pool, pool_len, f, PAPER_LEVEL, h);
-    uint32_t level = 2u;
-    while (level <= h) {
+    for (uint32_t level = 2u; level <= h; level++) {
         uint64_t i = (uint64_t)(level - 2u);
         uint32_t last = lasts[i];
         words_put_field(pool, pool_len, last, levels_word(level), heads_link_word(last, f));
         lasts[i] = f;
-        level = level + 1u;
+        if (h <= level) {
+            break;
+        }
     }
 }
 
@@ -1556,10 +1888,8 @@ static inline void moving_pass(unsigned char *pool, size_t pool_len, uint32_t la
 // On each level from 2 on nothing comes past the last one.
 static inline void moving_close(unsigned char *pool, size_t pool_len, const uint32_t lasts[12])
 {
-    uint32_t level = 2u;
-    while (level <= PAPER_LEVELS) {
+    for (uint32_t level = 2u; level <= PAPER_LEVELS; level++) {
         words_put_field(pool, pool_len, lasts[(uint64_t)(level - 2u)], levels_word(level), 0u);
-        level = level + 1u;
     }
 }
 
@@ -1579,72 +1909,74 @@ static inline void moving_move_to(unsigned char *pool, size_t pool_len, uint32_t
 
 static inline choosing_Rest choosing_remainder(const unsigned char *pool, size_t pool_len)
 {
-    uint32_t start = words_get32(pool, pool_len, PAPER_START);
-    uint32_t end = words_get32(pool, pool_len, PAPER_END);
+    uint32_t start = words_get_u32(pool, pool_len, PAPER_START);
+    uint32_t end = words_get_u32(pool, pool_len, PAPER_END);
     return choosing_Rest_of(start, end, words_minus(end, start));
 }
 
-// The remainder's high end, if 8 bytes are left.
-static inline choosing_Choice choosing_high_end(const unsigned char *pool, size_t pool_len, uint32_t b)
+// The remainder, if 8 bytes are left of it.
+static inline Result_Rest_Refusal choosing_room(const unsigned char *pool, size_t pool_len, uint32_t b)
 {
     choosing_Rest rest = choosing_remainder(pool, pool_len);
     if ((uint64_t)rest.size < (uint64_t)b + 8u) {
-        return choosing_Choice_Refusal(PAPER_NO_ROOM);
+        return Result_Rest_Refusal_Err(paper_Refusal_NoRoom());
     }
-    return choosing_Choice_HighEnd(rest, b);
+    return Result_Rest_Refusal_Ok(rest);
 }
 
-static inline choosing_Choice choosing_choose_small(const unsigned char *pool, size_t pool_len, uint32_t b)
+static inline Result_Choice_Refusal choosing_choose_small(const unsigned char *pool, size_t pool_len, uint32_t b)
 {
     uint32_t first = words_field(pool, pool_len, PAPER_SMALL_BINS, b);
     if (first == 0u) {
-        return choosing_high_end(pool, pool_len, b);
+        Result_Rest_Refusal value = choosing_room(pool, pool_len, b);
+        if (value.tag != RESULT_REST_REFUSAL_OK) {
+            return Result_Choice_Refusal_Err(value.as.Err);
+        }
+        return Result_Choice_Refusal_Ok(choosing_Choice_HighEnd(value.as.Ok, b));
     }
-    return choosing_Choice_FirstOfBin(first, b);
-}
-
-// The remainder's low end, if 8 bytes are left.
-static inline choosing_Choice choosing_low_end(const unsigned char *pool, size_t pool_len, uint32_t b)
-{
-    choosing_Rest rest = choosing_remainder(pool, pool_len);
-    if ((uint64_t)rest.size < (uint64_t)b + 8u) {
-        return choosing_Choice_Refusal(PAPER_NO_ROOM);
-    }
-    return choosing_Choice_LowEnd(rest, b);
+    return Result_Choice_Refusal_Ok(choosing_Choice_FirstOfBin(first, b));
 }
 
 // `exact` is not of exactly b: the smallest bin of at least b + 72, else the remainder.
-static inline choosing_Choice choosing_choose_larger(const unsigned char *pool, size_t pool_len, bins_Bin exact, uint32_t b)
+static inline Result_Choice_Refusal choosing_choose_larger(const unsigned char *pool, size_t pool_len, bins_Bin exact, uint32_t b)
 {
     bins_Bin larger = bins_find_on(pool, pool_len, exact, words_plus(b, PAPER_LARGE));
-    if (bins_none(larger)) {
-        return choosing_low_end(pool, pool_len, b);
+    if (bins_Bin_is_none(larger)) {
+        Result_Rest_Refusal value = choosing_room(pool, pool_len, b);
+        if (value.tag != RESULT_REST_REFUSAL_OK) {
+            return Result_Choice_Refusal_Err(value.as.Err);
+        }
+        return Result_Choice_Refusal_Ok(choosing_Choice_LowEnd(value.as.Ok, b));
     }
-    return choosing_Choice_LargerBin(larger, b);
+    return Result_Choice_Refusal_Ok(choosing_Choice_LargerBin(larger, b));
 }
 
 // The bin of exactly b, or a larger one. Where there is no bin at all, the remainder.
-static inline choosing_Choice choosing_choose_large(const unsigned char *pool, size_t pool_len, uint32_t b)
+static inline Result_Choice_Refusal choosing_choose_large(const unsigned char *pool, size_t pool_len, uint32_t b)
 {
     if (bins_empty(pool, pool_len)) {
-        return choosing_low_end(pool, pool_len, b);
+        Result_Rest_Refusal value = choosing_room(pool, pool_len, b);
+        if (value.tag != RESULT_REST_REFUSAL_OK) {
+            return Result_Choice_Refusal_Err(value.as.Err);
+        }
+        return Result_Choice_Refusal_Ok(choosing_Choice_LowEnd(value.as.Ok, b));
     }
     bins_Bin exact = bins_exact(pool, pool_len, b);
-    if (bins_size(exact) == b) {
-        return choosing_Choice_ExactBin(exact, b);
+    if (bins_Bin_size(exact) == b) {
+        return Result_Choice_Refusal_Ok(choosing_Choice_ExactBin(exact, b));
     }
     return choosing_choose_larger(pool, pool_len, exact, b);
 }
 
 // For a payload of s bytes.
-static inline choosing_Choice choosing_choose(const unsigned char *pool, size_t pool_len, uint32_t s)
+static inline Result_Choice_Refusal choosing_choose(const unsigned char *pool, size_t pool_len, uint32_t s)
 {
     if (s == 0u) {
-        return choosing_Choice_Refusal(PAPER_NO_SIZE);
+        return Result_Choice_Refusal_Err(paper_Refusal_NoSize());
     }
     uint64_t b = heads_block_size(s);
     if (65536u < b) {
-        return choosing_Choice_Refusal(PAPER_NO_ROOM);
+        return Result_Choice_Refusal_Err(paper_Refusal_NoRoom());
     }
     if (b < (uint64_t)PAPER_LARGE) {
         return choosing_choose_small(pool, pool_len, (uint32_t)b);
@@ -1655,44 +1987,44 @@ static inline choosing_Choice choosing_choose(const unsigned char *pool, size_t 
 // ---- grant: carrying out what was chosen: a block is taken
 
 // The free word falls by b, and the answer is where the payload of the block at q starts.
-static inline paper_Answer grant_granted(unsigned char *pool, size_t pool_len, uint32_t q, uint32_t b)
+static inline uint32_t grant_granted(unsigned char *pool, size_t pool_len, uint32_t q, uint32_t b)
 {
-    uint32_t free = words_get32(pool, pool_len, PAPER_FREE_WORD);
-    words_put32(pool, pool_len, PAPER_FREE_WORD, words_minus(free, b));
-    return paper_Answer_Done(words_plus(q, 4u));
+    uint32_t free = words_get_u32(pool, pool_len, PAPER_FREE_WORD);
+    words_put_u32(pool, pool_len, PAPER_FREE_WORD, words_minus(free, b));
+    return words_plus(q, 4u);
 }
 
 // The first block q of the bin of size b leaves it and is held.
-static inline paper_Answer grant_take_first(unsigned char *pool, size_t pool_len, uint32_t q, uint32_t b)
+static inline uint32_t grant_take_first(unsigned char *pool, size_t pool_len, uint32_t q, uint32_t b)
 {
     uint32_t next = words_field(pool, pool_len, q, PAPER_SMALL_NEXT);
     words_put_field(pool, pool_len, PAPER_SMALL_BINS, b, next);
-    words_put32(pool, pool_len, (uint64_t)q, heads_held_head(b));
+    words_put_u32(pool, pool_len, (uint64_t)q, heads_held_head(b));
     return grant_granted(pool, pool_len, q, b);
 }
 
 // The remainder gives its last b bytes.
-static inline paper_Answer grant_cut_high(unsigned char *pool, size_t pool_len, choosing_Rest rest, uint32_t b)
+static inline uint32_t grant_cut_high(unsigned char *pool, size_t pool_len, choosing_Rest rest, uint32_t b)
 {
     uint32_t q = words_minus(rest.end, b);
     uint32_t head = heads_free_head(words_minus(rest.size, b));
-    words_put32(pool, pool_len, PAPER_END, q);
-    words_put32(pool, pool_len, (uint64_t)rest.start, head);
-    words_put32(pool, pool_len, (uint64_t)q, heads_held_head(b));
+    words_put_u32(pool, pool_len, PAPER_END, q);
+    words_put_u32(pool, pool_len, (uint64_t)rest.start, head);
+    words_put_u32(pool, pool_len, (uint64_t)q, heads_held_head(b));
     return grant_granted(pool, pool_len, q, b);
 }
 
 // The block q of b bytes is held, which the block above it is told.
 static inline void grant_hold(unsigned char *pool, size_t pool_len, uint32_t q, uint32_t b)
 {
-    words_put32(pool, pool_len, (uint64_t)q, heads_held_head(b));
+    words_put_u32(pool, pool_len, (uint64_t)q, heads_held_head(b));
     uint32_t above = words_plus(q, b);
-    uint32_t head = words_get32(pool, pool_len, (uint64_t)above);
-    words_put32(pool, pool_len, (uint64_t)above, heads_with_p(head, 1));
+    uint32_t head = words_get_u32(pool, pool_len, (uint64_t)above);
+    words_put_u32(pool, pool_len, (uint64_t)above, heads_with_p(head, 1));
 }
 
 // A block of a bin of exactly b.
-static inline paper_Answer grant_take_whole(unsigned char *pool, size_t pool_len, bins_Bin bin, uint32_t b)
+static inline uint32_t grant_take_whole(unsigned char *pool, size_t pool_len, bins_Bin bin, uint32_t b)
 {
     uint32_t q = bins_take_out(pool, pool_len, bin);
     grant_hold(pool, pool_len, q, b);
@@ -1704,31 +2036,31 @@ static inline void grant_split(unsigned char *pool, size_t pool_len, uint32_t q,
 {
     uint32_t rest = words_plus(q, b);
     uint32_t size = words_minus(z, b);
-    words_put32(pool, pool_len, (uint64_t)q, heads_held_head(b));
+    words_put_u32(pool, pool_len, (uint64_t)q, heads_held_head(b));
     bins_enter(pool, pool_len, rest, size);
 }
 
 // The low end of a block of a larger bin.
-static inline paper_Answer grant_take_part(unsigned char *pool, size_t pool_len, bins_Bin bin, uint32_t b)
+static inline uint32_t grant_take_part(unsigned char *pool, size_t pool_len, bins_Bin bin, uint32_t b)
 {
     uint32_t q = bins_take_out(pool, pool_len, bin);
-    grant_split(pool, pool_len, q, bins_size(bin), b);
+    grant_split(pool, pool_len, q, bins_Bin_size(bin), b);
     return grant_granted(pool, pool_len, q, b);
 }
 
 // The remainder gives its first b bytes.
-static inline paper_Answer grant_cut_low(unsigned char *pool, size_t pool_len, choosing_Rest rest, uint32_t b)
+static inline uint32_t grant_cut_low(unsigned char *pool, size_t pool_len, choosing_Rest rest, uint32_t b)
 {
     uint32_t above = words_plus(rest.start, b);
     uint32_t head = heads_free_head(words_minus(rest.size, b));
-    words_put32(pool, pool_len, PAPER_START, above);
-    words_put32(pool, pool_len, (uint64_t)rest.start, heads_held_head(b));
-    words_put32(pool, pool_len, (uint64_t)above, head);
+    words_put_u32(pool, pool_len, PAPER_START, above);
+    words_put_u32(pool, pool_len, (uint64_t)rest.start, heads_held_head(b));
+    words_put_u32(pool, pool_len, (uint64_t)above, head);
     return grant_granted(pool, pool_len, rest.start, b);
 }
 
-// What was chosen is done, on the pool that it was chosen for.
-static inline paper_Answer grant_carry_out(unsigned char *pool, size_t pool_len, choosing_Choice choice)
+// What was chosen is done, on the pool that it was chosen for; answers where the payload starts.
+static inline uint32_t grant_carry_out(unsigned char *pool, size_t pool_len, choosing_Choice choice)
 {
     if (choice.tag == CHOOSING_CHOICE_FIRST_OF_BIN) {
         uint32_t q = choice.as.FirstOfBin.f0;
@@ -1746,34 +2078,57 @@ static inline paper_Answer grant_carry_out(unsigned char *pool, size_t pool_len,
         bins_Bin bin = choice.as.LargerBin.f0;
         uint32_t b = choice.as.LargerBin.f1;
         return grant_take_part(pool, pool_len, bin, b);
-    } else if (choice.tag == CHOOSING_CHOICE_LOW_END) {
+    } else {
         choosing_Rest rest = choice.as.LowEnd.f0;
         uint32_t b = choice.as.LowEnd.f1;
         return grant_cut_low(pool, pool_len, rest, b);
-    } else {
-        uint8_t k = choice.as.Refusal;
-        return paper_Answer_Refused(k);
     }
 }
 
-// Grants a block for a payload of s bytes.
-static inline paper_Answer grant_take(unsigned char *pool, size_t pool_len, uint32_t s)
+// Grants a block for a payload of s bytes; answers where the payload starts.
+static inline Result_u32_Refusal grant_take(unsigned char *pool, size_t pool_len, uint32_t s)
 {
-    choosing_Choice choice = choosing_choose(pool, pool_len, s);
-    return grant_carry_out(pool, pool_len, choice);
+    Result_Choice_Refusal value = choosing_choose(pool, pool_len, s);
+    if (value.tag != RESULT_CHOICE_REFUSAL_OK) {
+        return Result_u32_Refusal_Err(value.as.Err);
+    }
+    choosing_Choice choice = value.as.Ok;
+    return Result_u32_Refusal_Ok(grant_carry_out(pool, pool_len, choice));
 }
 
 // ---- walk: along the blocks: looking an offset up, the figures, the class count
+
+// Those that start below `to`.
+static inline walk_Blocks walk_Blocks_below(const unsigned char *pool, size_t pool_len, uint32_t from, uint32_t to)
+{
+    return walk_Blocks_of(pool, pool_len, (uint64_t)from, (uint64_t)to);
+}
+
+static inline Option_Block walk_Blocks_next(walk_Blocks *self)
+{
+    if (self->end <= self->at) {
+        return Option_Block_None();
+    }
+    uint64_t start = self->at;
+    heads_Head head = heads_Head_from_u32(words_get_u32(self->pool, self->pool_len, self->at));
+    if (head.size == 0u) {
+        return Option_Block_None();
+    }
+    self->at = self->at + (uint64_t)head.size;
+    return Option_Block_Some(walk_Block_of(start, head));
+}
 
 // Where the pool ends, as a position; no pool is longer than 65,536 bytes.
 static inline uint32_t walk_pool_end(const unsigned char *pool, size_t pool_len)
 {
     (void)pool;
-    uint64_t n = pool_len;
-    if (n < 65536u) {
-        return (uint32_t)n;
-    }
-    return 65536u;
+    return (uint32_t)core_usize_min(pool_len, 65536u);
+}
+
+// Those that start at `last` or below, and in any case the first.
+static inline walk_Blocks walk_Blocks_up_to(const unsigned char *pool, size_t pool_len, uint32_t from, uint32_t last)
+{
+    return walk_Blocks_of(pool, pool_len, (uint64_t)from, (uint64_t)core_u32_max(from, last) + 1u);
 }
 
 // The block whose head stands at `at`.
@@ -1788,19 +2143,18 @@ static inline paper_Found walk_found_at(heads_Head head, uint32_t at)
 // The block that `address` is in, in the walk from `from`, which is not above it.
 static inline paper_Found walk_block_at(const unsigned char *pool, size_t pool_len, uint32_t from, uint32_t address)
 {
-    uint64_t to = (uint64_t)address;
-    uint64_t at = (uint64_t)from;
+    walk_Blocks value = walk_Blocks_up_to(pool, pool_len, from, address);
     for (;;) {
-        heads_Head head = heads_apart(words_get32(pool, pool_len, at));
-        if (head.size == 0u) {
-            return paper_Found_Nothing();
+        Option_Block value2 = walk_Blocks_next(&value);
+        if (value2.tag != OPTION_BLOCK_SOME) {
+            break;
         }
-        uint64_t next = at + (uint64_t)head.size;
-        if (to < next) {
-            return walk_found_at(head, (uint32_t)at);
+        walk_Block block = value2.as.Some;
+        if ((uint64_t)address < block.start + (uint64_t)block.head.size) {
+            return walk_found_at(block.head, (uint32_t)block.start);
         }
-        at = next;
     }
+    return paper_Found_Nothing();
 }
 
 // The block that `address` is in: of the large ones below R, the remainder up to E, or of the small ones from there.
@@ -1809,25 +2163,15 @@ static inline paper_Found walk_look_up(const unsigned char *pool, size_t pool_le
     if (address < PAPER_BLOCKS) {
         return paper_Found_Nothing();
     }
-    uint32_t start = words_get32(pool, pool_len, PAPER_START);
+    uint32_t start = words_get_u32(pool, pool_len, PAPER_START);
     if (address < start) {
         return walk_block_at(pool, pool_len, PAPER_BLOCKS, address);
     }
-    uint32_t end = words_get32(pool, pool_len, PAPER_END);
+    uint32_t end = words_get_u32(pool, pool_len, PAPER_END);
     if (address < end) {
         return paper_Found_Remainder(start, words_minus(end, start));
     }
     return walk_block_at(pool, pool_len, end, address);
-}
-
-// All counters are 0.
-static inline void walk_clear(uint32_t *counts, size_t counts_len)
-{
-    uint64_t i = 0u;
-    while (i < counts_len) {
-        counts[i] = 0u;
-        i = i + 1u;
-    }
 }
 
 // One more in class k.
@@ -1843,17 +2187,16 @@ static inline void walk_bump(uint32_t *counts, size_t counts_len, uint32_t k)
 static inline uint32_t walk_count_run(const unsigned char *pool, size_t pool_len, uint32_t *counts, size_t counts_len,
         uint32_t from, uint32_t to, uint32_t already)
 {
-    uint64_t end = (uint64_t)to;
-    uint64_t at = (uint64_t)from;
     uint32_t held = already;
-    while (at < end) {
-        heads_Head head = heads_apart(words_get32(pool, pool_len, at));
-        if (head.size == 0u) {
-            return held;
+    walk_Blocks value = walk_Blocks_below(pool, pool_len, from, to);
+    for (;;) {
+        Option_Block value2 = walk_Blocks_next(&value);
+        if (value2.tag != OPTION_BLOCK_SOME) {
+            break;
         }
-        at = at + (uint64_t)head.size;
-        if (head.held) {
-            walk_bump(counts, counts_len, classes_class_of(words_minus(head.size, 4u)));
+        walk_Block block = value2.as.Some;
+        if (block.head.held) {
+            walk_bump(counts, counts_len, classes_class_of(words_minus(block.head.size, 4u)));
             held = words_plus(held, 1u);
         }
     }
@@ -1863,19 +2206,13 @@ static inline uint32_t walk_count_run(const unsigned char *pool, size_t pool_len
 // Fills the counters, and answers how many blocks are held.
 static inline uint32_t walk_count_classes(const unsigned char *pool, size_t pool_len, uint32_t *counts, size_t counts_len)
 {
-    walk_clear(counts, counts_len);
-    uint32_t start = words_get32(pool, pool_len, PAPER_START);
-    uint32_t end = words_get32(pool, pool_len, PAPER_END);
+    for (uint64_t i = 0u; i < counts_len; i++) {
+        counts[i] = 0u;
+    }
+    uint32_t start = words_get_u32(pool, pool_len, PAPER_START);
+    uint32_t end = words_get_u32(pool, pool_len, PAPER_END);
     uint32_t low = walk_count_run(pool, pool_len, counts, counts_len, PAPER_BLOCKS, start, 0u);
     return walk_count_run(pool, pool_len, counts, counts_len, end, walk_pool_end(pool, pool_len), low);
-}
-
-static inline uint32_t walk_greater(uint32_t a, uint32_t b)
-{
-    if (a < b) {
-        return b;
-    }
-    return a;
 }
 
 // With one block more. `largest` is the greatest block that can be given, until all are counted.
@@ -1887,7 +2224,7 @@ static inline paper_Figures walk_counted(paper_Figures t, heads_Head head)
         next.held_bytes = words_plus(t.held_bytes, head.size);
         return next;
     }
-    next.largest = walk_greater(t.largest, head.size);
+    next.largest = core_u32_max(t.largest, head.size);
     if (head.size < PAPER_LARGE) {
         next.free_small = words_plus(t.free_small, 1u);
         return next;
@@ -1900,16 +2237,15 @@ static inline paper_Figures walk_counted(paper_Figures t, heads_Head head)
 static inline paper_Figures walk_tally_run(const unsigned char *pool, size_t pool_len, uint32_t from, uint32_t to,
         paper_Figures first)
 {
-    uint64_t end = (uint64_t)to;
-    uint64_t at = (uint64_t)from;
     paper_Figures t = first;
-    while (at < end) {
-        heads_Head head = heads_apart(words_get32(pool, pool_len, at));
-        if (head.size == 0u) {
-            return t;
+    walk_Blocks value = walk_Blocks_below(pool, pool_len, from, to);
+    for (;;) {
+        Option_Block value2 = walk_Blocks_next(&value);
+        if (value2.tag != OPTION_BLOCK_SOME) {
+            break;
         }
-        t = walk_counted(t, head);
-        at = at + (uint64_t)head.size;
+        walk_Block block = value2.as.Some;
+        t = walk_counted(t, block.head);
     }
     return t;
 }
@@ -1917,22 +2253,19 @@ static inline paper_Figures walk_tally_run(const unsigned char *pool, size_t poo
 // The payload of a block; 0 where there is none.
 static inline uint32_t walk_payload_of(uint32_t size)
 {
-    if (size < 4u) {
-        return 0u;
-    }
-    return size - 4u;
+    return core_u32_saturating_sub(size, 4u);
 }
 
 // The remainder gives all but the 8 bytes that it keeps; a free block is given whole.
 static inline paper_Figures walk_tally(const unsigned char *pool, size_t pool_len)
 {
-    uint32_t start = words_get32(pool, pool_len, PAPER_START);
-    uint32_t end = words_get32(pool, pool_len, PAPER_END);
+    uint32_t start = words_get_u32(pool, pool_len, PAPER_START);
+    uint32_t end = words_get_u32(pool, pool_len, PAPER_END);
     uint32_t remainder = words_minus(end, start);
     paper_Figures none = paper_Figures_of(0u, 0u, 0u, 0u, remainder, 0u, words_minus(remainder, 8u));
     paper_Figures low = walk_tally_run(pool, pool_len, PAPER_BLOCKS, start, none);
     paper_Figures all = walk_tally_run(pool, pool_len, end, walk_pool_end(pool, pool_len), low);
-    all.free_word = words_get32(pool, pool_len, 0u);
+    all.free_word = words_get_u32(pool, pool_len, 0u);
     all.largest = walk_payload_of(all.largest);
     return all;
 }
@@ -1942,40 +2275,40 @@ static inline paper_Figures walk_tally(const unsigned char *pool, size_t pool_le
 // The free blocks from `from` on. A block of size 0, which no sound pool has, ends them.
 static inline homing_Run homing_free_run(const unsigned char *pool, size_t pool_len, uint32_t from)
 {
-    uint32_t to = walk_pool_end(pool, pool_len);
-    uint32_t end = from;
-    uint32_t blocks = 0u;
-    while (end < to) {
-        heads_Head head = heads_apart(words_get32(pool, pool_len, (uint64_t)end));
-        if (head.held) {
-            return homing_Run_of(end, blocks);
+    homing_Run run = homing_Run_of(from, 0u);
+    walk_Blocks value = walk_Blocks_below(pool, pool_len, from, walk_pool_end(pool, pool_len));
+    for (;;) {
+        Option_Block value2 = walk_Blocks_next(&value);
+        if (value2.tag != OPTION_BLOCK_SOME) {
+            break;
         }
-        if (head.size == 0u) {
-            return homing_Run_of(end, blocks);
+        walk_Block block = value2.as.Some;
+        if (block.head.held) {
+            return run;
         }
-        end = words_plus(end, head.size);
-        blocks = words_plus(blocks, 1u);
+        run.end = words_plus((uint32_t)block.start, block.head.size);
+        run.blocks = words_plus(run.blocks, 1u);
     }
-    return homing_Run_of(end, blocks);
+    return run;
 }
 
 // The word at `at` leads to q; it is stored only where it does not yet.
 static inline void homing_lead(unsigned char *pool, size_t pool_len, uint32_t at, uint32_t q)
 {
-    if (words_get32(pool, pool_len, (uint64_t)at) == q) {
+    if (words_get_u32(pool, pool_len, (uint64_t)at) == q) {
         return;
     }
-    words_put32(pool, pool_len, (uint64_t)at, q);
+    words_put_u32(pool, pool_len, (uint64_t)at, q);
 }
 
 // The list whose first member stands at `first`, without what lies below `edge`. `at` is the word that leads on from what stays so far.
 // No list has as many members as the pool has words of 8 bytes.
 static inline void homing_prune(unsigned char *pool, size_t pool_len, uint32_t first, uint32_t edge)
 {
-    uint64_t left = (uint64_t)pool_len >> 3;
     uint32_t at = first;
-    uint32_t q = words_get32(pool, pool_len, (uint64_t)first);
-    while (left != 0u) {
+    uint32_t q = words_get_u32(pool, pool_len, (uint64_t)first);
+    uint64_t value = 0u;
+    while (value < ((uint64_t)pool_len >> 3)) {
         if (q == 0u) {
             homing_lead(pool, pool_len, at, 0u);
             return;
@@ -1986,17 +2319,15 @@ static inline void homing_prune(unsigned char *pool, size_t pool_len, uint32_t f
             at = words_plus(q, PAPER_SMALL_NEXT);
         }
         q = next;
-        left = left - 1u;
+        value = value + 1u;
     }
 }
 
 // The eight small bins, whose first blocks stand in the header, without what lies below `edge`.
 static inline void homing_prune_all(unsigned char *pool, size_t pool_len, uint32_t edge)
 {
-    uint32_t first = (uint32_t)PAPER_SMALL_BINS + 8u;
-    while (first != PAPER_FALSE_BLOCK) {
+    for (uint32_t first = (uint32_t)PAPER_SMALL_BINS + 8u; first < PAPER_FALSE_BLOCK; first += 8u) {
         homing_prune(pool, pool_len, first, edge);
-        first = first + 8u;
     }
 }
 
@@ -2007,9 +2338,9 @@ static inline uint32_t homing_go_home(unsigned char *pool, size_t pool_len, uint
     if (run.blocks != 0u) {
         homing_prune_all(pool, pool_len, run.end);
     }
-    uint32_t start = words_get32(pool, pool_len, PAPER_START);
-    words_put32(pool, pool_len, PAPER_END, run.end);
-    words_put32(pool, pool_len, (uint64_t)start, heads_free_head(words_minus(run.end, start)));
+    uint32_t start = words_get_u32(pool, pool_len, PAPER_START);
+    words_put_u32(pool, pool_len, PAPER_END, run.end);
+    words_put_u32(pool, pool_len, (uint64_t)start, heads_free_head(words_minus(run.end, start)));
     return run.blocks;
 }
 
@@ -2019,7 +2350,7 @@ static inline uint32_t homing_go_home(unsigned char *pool, size_t pool_len, uint
 static inline void giveback_at_front(unsigned char *pool, size_t pool_len, uint32_t q, uint32_t z)
 {
     uint32_t first = words_field(pool, pool_len, PAPER_SMALL_BINS, z);
-    words_put32(pool, pool_len, (uint64_t)q, heads_free_head(z));
+    words_put_u32(pool, pool_len, (uint64_t)q, heads_free_head(z));
     words_put_field(pool, pool_len, q, PAPER_SMALL_NEXT, first);
     words_put_field(pool, pool_len, PAPER_SMALL_BINS, z, q);
 }
@@ -2027,7 +2358,7 @@ static inline void giveback_at_front(unsigned char *pool, size_t pool_len, uint3
 // In a sound pool the block at E was held, so only the one that comes back can be free there.
 static inline void giveback_give_back_small(unsigned char *pool, size_t pool_len, uint32_t q, uint32_t z)
 {
-    if (q == words_get32(pool, pool_len, PAPER_END)) {
+    if (q == words_get_u32(pool, pool_len, PAPER_END)) {
         (void)homing_go_home(pool, pool_len, words_plus(q, z));
         return;
     }
@@ -2037,12 +2368,12 @@ static inline void giveback_give_back_small(unsigned char *pool, size_t pool_len
 // Where the run starts: at the free large block below, whose size its footer tells, or at q.
 static inline uint32_t giveback_run_start(const unsigned char *pool, size_t pool_len, uint32_t q)
 {
-    heads_Head head = heads_apart(words_get32(pool, pool_len, (uint64_t)q));
+    heads_Head head = heads_Head_from_u32(words_get_u32(pool, pool_len, (uint64_t)q));
     if (head.p) {
         return q;
     }
-    uint32_t foot = words_get32(pool, pool_len, (uint64_t)words_minus(q, 4u));
-    return words_minus(q, heads_apart(foot).size);
+    uint32_t foot = words_get_u32(pool, pool_len, (uint64_t)words_minus(q, 4u));
+    return words_minus(q, heads_Head_from_u32(foot).size);
 }
 
 // The free block at `start`, if it is another than q, leaves its bin.
@@ -2058,9 +2389,9 @@ static inline void giveback_leave_below(unsigned char *pool, size_t pool_len, ui
 static inline void giveback_join_rest(unsigned char *pool, size_t pool_len, uint32_t start, uint32_t q)
 {
     giveback_leave_below(pool, pool_len, start, q);
-    uint32_t end = words_get32(pool, pool_len, PAPER_END);
-    words_put32(pool, pool_len, PAPER_START, start);
-    words_put32(pool, pool_len, (uint64_t)start, heads_free_head(words_minus(end, start)));
+    uint32_t end = words_get_u32(pool, pool_len, PAPER_END);
+    words_put_u32(pool, pool_len, PAPER_START, start);
+    words_put_u32(pool, pool_len, (uint64_t)start, heads_free_head(words_minus(end, start)));
 }
 
 // The bytes from `start` to `end` are one free block, and it enters its bin.
@@ -2072,11 +2403,11 @@ static inline void giveback_settle(unsigned char *pool, size_t pool_len, uint32_
 // The run ends at `top`, or past the free block there.
 static inline void giveback_join_run(unsigned char *pool, size_t pool_len, uint32_t start, uint32_t q, uint32_t top)
 {
-    uint32_t word = words_get32(pool, pool_len, (uint64_t)top);
-    heads_Head above = heads_apart(word);
+    uint32_t word = words_get_u32(pool, pool_len, (uint64_t)top);
+    heads_Head above = heads_Head_from_u32(word);
     if (above.held) {
         giveback_leave_below(pool, pool_len, start, q);
-        words_put32(pool, pool_len, (uint64_t)top, heads_with_p(word, 0));
+        words_put_u32(pool, pool_len, (uint64_t)top, heads_with_p(word, 0));
         giveback_settle(pool, pool_len, start, top);
         return;
     }
@@ -2094,7 +2425,7 @@ static inline void giveback_give_back_large(unsigned char *pool, size_t pool_len
 {
     uint32_t start = giveback_run_start(pool, pool_len, q);
     uint32_t top = words_plus(q, z);
-    if (top == words_get32(pool, pool_len, PAPER_START)) {
+    if (top == words_get_u32(pool, pool_len, PAPER_START)) {
         giveback_join_rest(pool, pool_len, start, q);
         return;
     }
@@ -2114,8 +2445,8 @@ static inline void giveback_put_back(unsigned char *pool, size_t pool_len, uint3
 // The free word rises by z.
 static inline void giveback_earn(unsigned char *pool, size_t pool_len, uint32_t z)
 {
-    uint32_t free = words_get32(pool, pool_len, PAPER_FREE_WORD);
-    words_put32(pool, pool_len, PAPER_FREE_WORD, words_plus(free, z));
+    uint32_t free = words_get_u32(pool, pool_len, PAPER_FREE_WORD);
+    words_put_u32(pool, pool_len, PAPER_FREE_WORD, words_plus(free, z));
 }
 
 // The held block at q, z bytes long, comes back.
@@ -2138,224 +2469,227 @@ static inline int reading_edge_ok(const unsigned char *pool, size_t pool_len, in
 
 // By the old rule or by the one in force. Both have the same tests but one, and one function has them all: the compiler puts the inspection into its
 // only caller, and keeps what is the same for every block in registers there.
-static inline uint8_t reading_why(const unsigned char *pool, size_t pool_len, int old)
+static inline Result_void_Refusal reading_check_by(const unsigned char *pool, size_t pool_len, int old)
 {
     if (!inspect_allowed(pool_len)) {
-        return PAPER_NOT_ALLOWED;
+        return Result_void_Refusal_Err(paper_Refusal_NotAllowed());
     }
     if (!reading_edge_ok(pool, pool_len, old)) {
-        return PAPER_NOT_SOUND;
+        return Result_void_Refusal_Err(paper_Refusal_NotSound());
     }
     if (!inspect_sound_by_old_rule(pool, pool_len)) {
-        return PAPER_NOT_SOUND;
+        return Result_void_Refusal_Err(paper_Refusal_NotSound());
     }
-    return 0u;
+    return Result_void_Refusal_Ok();
 }
 
-// 1 where n is not allowed, 2 where the pool is not sound, else 0.
-static inline uint8_t reading_refusal(const unsigned char *pool, size_t pool_len)
+// Refused where n is not allowed, and where the pool is not sound.
+static inline Result_void_Refusal reading_check(const unsigned char *pool, size_t pool_len)
 {
-    return reading_why(pool, pool_len, 0);
+    return reading_check_by(pool, pool_len, 0);
 }
 
 // The same by the old rule, under which a free block could stand at E. For bring-in alone.
-static inline uint8_t reading_old_refusal(const unsigned char *pool, size_t pool_len)
+static inline Result_void_Refusal reading_check_by_old_rule(const unsigned char *pool, size_t pool_len)
 {
-    return reading_why(pool, pool_len, 1);
+    return reading_check_by(pool, pool_len, 1);
 }
 
 // ---- serving: the calls on a pool that is known to be sound
 
 // The size of the held block whose payload starts at `offset`, by the block that the offset is in; or the refusal.
-static inline paper_Answer serving_held_there(paper_Found found, uint32_t offset)
+static inline Result_u32_Refusal serving_held_there(paper_Found found, uint32_t offset)
 {
     if (found.tag != PAPER_FOUND_HELD) {
-        return paper_Answer_Refused(PAPER_NOT_HELD);
+        return Result_u32_Refusal_Err(paper_Refusal_NotHeld());
     }
     uint32_t start = found.as.Held.f0;
     uint32_t size = found.as.Held.f1;
     if ((uint64_t)offset != (uint64_t)start + 4u) {
-        return paper_Answer_Refused(PAPER_NOT_HELD);
+        return Result_u32_Refusal_Err(paper_Refusal_NotHeld());
     }
-    return paper_Answer_Done(size);
+    return Result_u32_Refusal_Ok(size);
 }
 
 // The bytes of the payload at `offset`.
-static inline paper_Answer serving_ask(const unsigned char *pool, size_t pool_len, uint32_t offset)
+static inline Result_u32_Refusal serving_ask(const unsigned char *pool, size_t pool_len, uint32_t offset)
 {
-    paper_Answer found = serving_held_there(walk_look_up(pool, pool_len, offset), offset);
-    if (found.tag != PAPER_ANSWER_DONE) {
-        return found;
+    Result_u32_Refusal value = serving_held_there(walk_look_up(pool, pool_len, offset), offset);
+    if (value.tag != RESULT_U32_REFUSAL_OK) {
+        return Result_u32_Refusal_Err(value.as.Err);
     }
-    uint32_t z = found.as.Done;
-    return paper_Answer_Done(words_minus(z, 4u));
+    uint32_t z = value.as.Ok;
+    return Result_u32_Refusal_Ok(words_minus(z, 4u));
 }
 
 // Takes the block of the payload at `offset` back; answers the payload's bytes.
-static inline paper_Answer serving_give_back(unsigned char *pool, size_t pool_len, uint32_t offset)
+static inline Result_u32_Refusal serving_give_back(unsigned char *pool, size_t pool_len, uint32_t offset)
 {
-    paper_Answer found = serving_held_there(walk_look_up(pool, pool_len, offset), offset);
-    if (found.tag != PAPER_ANSWER_DONE) {
-        return found;
+    Result_u32_Refusal value = serving_held_there(walk_look_up(pool, pool_len, offset), offset);
+    if (value.tag != RESULT_U32_REFUSAL_OK) {
+        return Result_u32_Refusal_Err(value.as.Err);
     }
-    uint32_t z = found.as.Done;
+    uint32_t z = value.as.Ok;
     giveback_give_back(pool, pool_len, words_minus(offset, 4u), z);
-    return paper_Answer_Done(words_minus(z, 4u));
+    return Result_u32_Refusal_Ok(words_minus(z, 4u));
 }
 
 // Fills the 53 counters with the held blocks by size class; answers how many are held.
-static inline paper_Answer serving_class_count(const unsigned char *pool, size_t pool_len, uint32_t *counts, size_t counts_len)
+static inline Result_u32_Refusal serving_class_count(const unsigned char *pool, size_t pool_len, uint32_t *counts,
+        size_t counts_len)
 {
     if (counts_len != 53u) {
-        return paper_Answer_Refused(PAPER_LIST_LENGTH);
+        return Result_u32_Refusal_Err(paper_Refusal_ListLength());
     }
-    return paper_Answer_Done(walk_count_classes(pool, pool_len, counts, counts_len));
+    return Result_u32_Refusal_Ok(walk_count_classes(pool, pool_len, counts, counts_len));
 }
 
 // ---- pool: the public calls
 
 // Takes the block of the payload at `offset` back; answers the payload's bytes.
-static inline paper_Answer pool_lib_give_back(unsigned char *pool, size_t pool_len, uint32_t offset)
+static inline Result_u32_Refusal pool_lib_give_back(unsigned char *pool, size_t pool_len, uint32_t offset)
 {
-    uint8_t why = reading_refusal(pool, pool_len);
-    if (why != 0u) {
-        return paper_Answer_Refused(why);
+    Result_void_Refusal value = reading_check(pool, pool_len);
+    if (value.tag != RESULT_VOID_REFUSAL_OK) {
+        return Result_u32_Refusal_Err(value.as.Err);
     }
     return serving_give_back(pool, pool_len, offset);
 }
 
 // Grants a block for a payload of `size` bytes; answers where the payload starts.
-static inline paper_Answer pool_lib_take(unsigned char *pool, size_t pool_len, uint32_t size)
+static inline Result_u32_Refusal pool_lib_take(unsigned char *pool, size_t pool_len, uint32_t size)
 {
-    uint8_t why = reading_refusal(pool, pool_len);
-    if (why != 0u) {
-        return paper_Answer_Refused(why);
+    Result_void_Refusal value = reading_check(pool, pool_len);
+    if (value.tag != RESULT_VOID_REFUSAL_OK) {
+        return Result_u32_Refusal_Err(value.as.Err);
     }
     return grant_take(pool, pool_len, size);
 }
 
 // The bytes of the payload at `offset`.
-static inline paper_Answer pool_lib_ask(const unsigned char *pool, size_t pool_len, uint32_t offset)
+static inline Result_u32_Refusal pool_lib_ask(const unsigned char *pool, size_t pool_len, uint32_t offset)
 {
-    uint8_t why = reading_refusal(pool, pool_len);
-    if (why != 0u) {
-        return paper_Answer_Refused(why);
+    Result_void_Refusal value = reading_check(pool, pool_len);
+    if (value.tag != RESULT_VOID_REFUSAL_OK) {
+        return Result_u32_Refusal_Err(value.as.Err);
     }
     return serving_ask(pool, pool_len, offset);
 }
 
 // Fills the 53 counters with the held blocks by size class; answers how many are held.
-static inline paper_Answer pool_lib_class_count(const unsigned char *pool, size_t pool_len, uint32_t *counts, size_t counts_len)
+static inline Result_u32_Refusal pool_lib_class_count(const unsigned char *pool, size_t pool_len, uint32_t *counts,
+        size_t counts_len)
 {
-    uint8_t why = reading_refusal(pool, pool_len);
-    if (why != 0u) {
-        return paper_Answer_Refused(why);
+    Result_void_Refusal value = reading_check(pool, pool_len);
+    if (value.tag != RESULT_VOID_REFUSAL_OK) {
+        return Result_u32_Refusal_Err(value.as.Err);
     }
     return serving_class_count(pool, pool_len, counts, counts_len);
 }
 
 // Whether the pool is sound; answers its length.
-static inline paper_Answer pool_lib_inspect(const unsigned char *pool, size_t pool_len)
+static inline Result_u32_Refusal pool_lib_inspect(const unsigned char *pool, size_t pool_len)
 {
-    uint8_t why = reading_refusal(pool, pool_len);
-    if (why != 0u) {
-        return paper_Answer_Refused(why);
+    Result_void_Refusal value = reading_check(pool, pool_len);
+    if (value.tag != RESULT_VOID_REFUSAL_OK) {
+        return Result_u32_Refusal_Err(value.as.Err);
     }
-    return paper_Answer_Done((uint32_t)pool_len);
+    return Result_u32_Refusal_Ok((uint32_t)pool_len);
 }
 
 // Lays the buffer out as a fresh pool, in layout 1 or 2; answers its length.
-static inline paper_Answer pool_lib_lay_out(unsigned char *pool, size_t pool_len, uint32_t layout)
+static inline Result_u32_Refusal pool_lib_lay_out(unsigned char *pool, size_t pool_len, uint32_t layout)
 {
     uint64_t n = pool_len;
     if (!inspect_allowed(n)) {
-        return paper_Answer_Refused(PAPER_NOT_ALLOWED);
+        return Result_u32_Refusal_Err(paper_Refusal_NotAllowed());
     }
-    uint32_t top = laying_top_of(layout);
-    if (top == 0u) {
-        return paper_Answer_Refused(PAPER_NO_LAYOUT);
+    Option_u32 value = laying_top_of(layout);
+    if (value.tag != OPTION_U32_SOME) {
+        return Result_u32_Refusal_Err(paper_Refusal_NoLayout());
     }
+    uint32_t top = value.as.Some;
     laying_lay_out(pool, pool_len, (uint32_t)n, top);
-    return paper_Answer_Done((uint32_t)n);
+    return Result_u32_Refusal_Ok((uint32_t)n);
 }
 
 // The seven figures.
-static inline paper_Tally pool_lib_figures(const unsigned char *pool, size_t pool_len)
+static inline Result_Figures_Refusal pool_lib_figures(const unsigned char *pool, size_t pool_len)
 {
-    uint8_t why = reading_refusal(pool, pool_len);
-    if (why != 0u) {
-        return paper_Tally_Refused(why);
+    Result_void_Refusal value = reading_check(pool, pool_len);
+    if (value.tag != RESULT_VOID_REFUSAL_OK) {
+        return Result_Figures_Refusal_Err(value.as.Err);
     }
-    return paper_Tally_Counted(walk_tally(pool, pool_len));
+    return Result_Figures_Refusal_Ok(walk_tally(pool, pool_len));
 }
 
 // ---- convert: a pool moves from one layout to the other, a call above the pool
 
-// The number that the call is refused with, in the order 1, 8, 2, 13; 0 where nothing refuses it.
-static inline uint8_t convert_refusal(const unsigned char *pool, size_t pool_len, uint32_t old)
+// Why the call is refused, in the order 1, 8, 2, 13.
+static inline Result_void_Refusal convert_check(const unsigned char *pool, size_t pool_len, uint32_t old)
 {
-    uint8_t read = reading_refusal(pool, pool_len);
-    uint32_t named = laying_top_of(old);
-    uint32_t top = levels_top(pool, pool_len);
-    if (read == PAPER_NOT_ALLOWED) {
-        return PAPER_NOT_ALLOWED;
+    if (!inspect_allowed(pool_len)) {
+        return Result_void_Refusal_Err(paper_Refusal_NotAllowed());
     }
-    if (named == 0u) {
-        return PAPER_NO_LAYOUT;
+    Option_u32 value = laying_top_of(old);
+    if (value.tag != OPTION_U32_SOME) {
+        return Result_void_Refusal_Err(paper_Refusal_NoLayout());
     }
-    if (read != 0u) {
-        return PAPER_NOT_SOUND;
+    uint32_t named = value.as.Some;
+    Result_void_Refusal value2 = reading_check(pool, pool_len);
+    if (value2.tag != RESULT_VOID_REFUSAL_OK) {
+        return Result_void_Refusal_Err(value2.as.Err);
     }
-    if (top != named) {
-        return CONVERT_OTHER_LAYOUT;
+    if (levels_top(pool, pool_len) != named) {
+        return Result_void_Refusal_Err(paper_Refusal_OtherLayout());
     }
-    return 0u;
+    return Result_void_Refusal_Ok();
 }
 
-// The other layout's number.
-static inline uint32_t convert_other(uint32_t layout)
+// How high the index of the other layout is.
+static inline uint32_t convert_other_top(uint32_t old)
 {
-    if (layout == 1u) {
-        return 2u;
+    if (old == 1u) {
+        return PAPER_LEVELS;
     }
     return 1u;
 }
 
 // Moves the pool from the layout `old` to the other one; answers its length.
-static inline paper_Answer convert_convert(unsigned char *pool, size_t pool_len, uint32_t old)
+static inline Result_u32_Refusal convert_convert(unsigned char *pool, size_t pool_len, uint32_t old)
 {
-    uint8_t why = convert_refusal(pool, pool_len, old);
-    if (why != 0u) {
-        return paper_Answer_Refused(why);
+    Result_void_Refusal value = convert_check(pool, pool_len, old);
+    if (value.tag != RESULT_VOID_REFUSAL_OK) {
+        return Result_u32_Refusal_Err(value.as.Err);
     }
-    moving_move_to(pool, pool_len, laying_top_of(convert_other(old)));
-    return paper_Answer_Done((uint32_t)pool_len);
+    moving_move_to(pool, pool_len, convert_other_top(old));
+    return Result_u32_Refusal_Ok((uint32_t)pool_len);
 }
 
 // ---- bringing: a pool that was stored under the old rule is brought in, a call above the pool
 
 // Answers how many blocks went home: 0 of a pool that is sound by the rule in force, and no byte of it changes.
-static inline paper_Answer bringing_bring_in(unsigned char *pool, size_t pool_len)
+static inline Result_u32_Refusal bringing_bring_in(unsigned char *pool, size_t pool_len)
 {
-    uint8_t why = reading_old_refusal(pool, pool_len);
-    if (why != 0u) {
-        return paper_Answer_Refused(why);
+    Result_void_Refusal value = reading_check_by_old_rule(pool, pool_len);
+    if (value.tag != RESULT_VOID_REFUSAL_OK) {
+        return Result_u32_Refusal_Err(value.as.Err);
     }
-    uint32_t edge = words_get32(pool, pool_len, PAPER_END);
-    return paper_Answer_Done(homing_go_home(pool, pool_len, edge));
+    uint32_t edge = words_get_u32(pool, pool_len, PAPER_END);
+    return Result_u32_Refusal_Ok(homing_go_home(pool, pool_len, edge));
 }
 
 // ---- board: the public calls for C
 
 // The refusal's number in the upper half, the value in the lower half.
-static inline uint64_t board_of(paper_Answer a)
+static inline uint64_t board_of(Result_u32_Refusal a)
 {
-    if (a.tag == PAPER_ANSWER_DONE) {
-        uint32_t v = a.as.Done;
+    if (a.tag == RESULT_U32_REFUSAL_OK) {
+        uint32_t v = a.as.Ok;
         return (uint64_t)v;
     } else {
-        uint8_t k = a.as.Refused;
-        return (uint64_t)k << 32;
+        paper_Refusal k = a.as.Err;
+        return (uint64_t)paper_u8_from_Refusal(k) << 32;
     }
 }
 
@@ -2409,10 +2743,10 @@ uint64_t pool_take(unsigned char *pool, size_t pool_len, uint32_t size)
 
 // The seven figures, in the paper's order; answers the first. Another list than one of seven numbers stays as it is, and is refused
 // by its length, as the class count refuses one that has not 53.
-static inline paper_Answer board_counted(paper_Figures f, uint32_t *list, size_t list_len)
+static inline Result_u32_Refusal board_counted(paper_Figures f, uint32_t *list, size_t list_len)
 {
     if (list_len != 7u) {
-        return paper_Answer_Refused(6u);
+        return Result_u32_Refusal_Err(paper_Refusal_ListLength());
     }
     list[0u] = f.held_blocks;
     list[1u] = f.held_bytes;
@@ -2421,19 +2755,17 @@ static inline paper_Answer board_counted(paper_Figures f, uint32_t *list, size_t
     list[4u] = f.remainder;
     list[5u] = f.free_word;
     list[6u] = f.largest;
-    return paper_Answer_Done(f.held_blocks);
+    return Result_u32_Refusal_Ok(f.held_blocks);
 }
 
-// A refused tally leaves the list as it is.
-static inline paper_Answer board_tallied(paper_Tally t, uint32_t *list, size_t list_len)
+// Refused figures leave the list as it is.
+static inline Result_u32_Refusal board_tallied(Result_Figures_Refusal t, uint32_t *list, size_t list_len)
 {
-    if (t.tag == PAPER_TALLY_COUNTED) {
-        paper_Figures f = t.as.Counted;
-        return board_counted(f, list, list_len);
-    } else {
-        uint8_t k = t.as.Refused;
-        return paper_Answer_Refused(k);
+    Result_Figures_Refusal value = t;
+    if (value.tag != RESULT_FIGURES_REFUSAL_OK) {
+        return Result_u32_Refusal_Err(value.as.Err);
     }
+    return board_counted(value.as.Ok, list, list_len);
 }
 
 // Fills the list with the seven figures; answers the first, how many blocks are held.
@@ -2446,16 +2778,37 @@ uint64_t pool_figures(const unsigned char *pool, size_t pool_len, uint32_t *figu
 
 // ---- What only the piston bank needs
 
-// What is asked of the pool for a call, at one reading: the first of 1, 2, 10 and 12 that refuses, 0 where none does; and the bytes of the
-// payload that the piston names, 0 where it is empty.
+// A value that may be absent.
+enum { OPTION_REF_U32_NONE, OPTION_REF_U32_SOME };
 typedef struct {
-    uint8_t why;
-    uint32_t long_;
-} bank_Told;
+    uint8_t tag;
+    union {
+        const uint32_t *Some;
+    } as;
+} Option_ref_u32;
 
-// Where a record starts and ends in the pool, and the number that recalling it answers.
+// A value that may be absent.
+enum { OPTION_REF_U8_NONE, OPTION_REF_U8_SOME };
 typedef struct {
-    uint8_t number;
+    uint8_t tag;
+    union {
+        const unsigned char *Some;
+    } as;
+} Option_ref_u8;
+
+// A value that may be absent.
+enum { OPTION_REFUSAL_NONE, OPTION_REFUSAL_SOME };
+typedef struct {
+    uint8_t tag;
+    union {
+        paper_Refusal Some;
+    } as;
+} Option_Refusal;
+
+// Where a record starts and ends in the pool, and why recalling it is refused, if it is. No Result: a refused recall has a part too, the
+// empty one at the pool's end (theorem refused-recall).
+typedef struct {
+    Option_Refusal refusal;
     uint64_t from;
     uint64_t to;
 } bank_Place;
@@ -2465,14 +2818,20 @@ typedef struct {
     uint8_t tag;
 } bank_Kind;
 
-// What a byte of kind says.
-enum { BANK_KNOWN_IS, BANK_KNOWN_UNKNOWN };
+// A byte that names no kind.
+typedef struct {
+    uint8_t f0;
+} bank_UnknownKind;
+
+// A value, or why there is none.
+enum { RESULT_KIND_UNKNOWNKIND_OK, RESULT_KIND_UNKNOWNKIND_ERR };
 typedef struct {
     uint8_t tag;
     union {
-        bank_Kind Is;
+        bank_Kind Ok;
+        bank_UnknownKind Err;
     } as;
-} bank_Known;
+} Result_Kind_UnknownKind;
 
 // One member of a union is set, and maybe not the widest: gcc warns of that as of a value that was not set.
 #if defined(__GNUC__) && !defined(__clang__)
@@ -2480,18 +2839,76 @@ typedef struct {
 #pragma GCC diagnostic ignored "-Wmaybe-uninitialized"
 #endif
 
-static inline bank_Told bank_Told_of(uint8_t why, uint32_t long_)
+static inline paper_Refusal paper_Refusal_NoPiston(void)
 {
-    bank_Told made;
-    made.why = why;
-    made.long_ = long_;
+    paper_Refusal made;
+    made.tag = PAPER_REFUSAL_NO_PISTON;
     return made;
 }
 
-static inline bank_Place bank_Place_of(uint8_t number, uint64_t from, uint64_t to)
+static inline paper_Refusal paper_Refusal_NoRecord(void)
+{
+    paper_Refusal made;
+    made.tag = PAPER_REFUSAL_NO_RECORD;
+    return made;
+}
+
+static inline paper_Refusal paper_Refusal_NotNamed(void)
+{
+    paper_Refusal made;
+    made.tag = PAPER_REFUSAL_NOT_NAMED;
+    return made;
+}
+
+static inline Option_ref_u32 Option_ref_u32_None(void)
+{
+    Option_ref_u32 made;
+    made.tag = OPTION_REF_U32_NONE;
+    return made;
+}
+
+static inline Option_ref_u32 Option_ref_u32_Some(const uint32_t *f0)
+{
+    Option_ref_u32 made;
+    made.tag = OPTION_REF_U32_SOME;
+    made.as.Some = f0;
+    return made;
+}
+
+static inline Option_ref_u8 Option_ref_u8_None(void)
+{
+    Option_ref_u8 made;
+    made.tag = OPTION_REF_U8_NONE;
+    return made;
+}
+
+static inline Option_ref_u8 Option_ref_u8_Some(const unsigned char *f0)
+{
+    Option_ref_u8 made;
+    made.tag = OPTION_REF_U8_SOME;
+    made.as.Some = f0;
+    return made;
+}
+
+static inline Option_Refusal Option_Refusal_None(void)
+{
+    Option_Refusal made;
+    made.tag = OPTION_REFUSAL_NONE;
+    return made;
+}
+
+static inline Option_Refusal Option_Refusal_Some(paper_Refusal f0)
+{
+    Option_Refusal made;
+    made.tag = OPTION_REFUSAL_SOME;
+    made.as.Some = f0;
+    return made;
+}
+
+static inline bank_Place bank_Place_of(Option_Refusal refusal, uint64_t from, uint64_t to)
 {
     bank_Place made;
-    made.number = number;
+    made.refusal = refusal;
     made.from = from;
     made.to = to;
     return made;
@@ -2518,18 +2935,26 @@ static inline bank_Kind bank_Kind_ThirtyTwo(void)
     return made;
 }
 
-static inline bank_Known bank_Known_Is(bank_Kind f0)
+static inline bank_UnknownKind bank_UnknownKind_of(uint8_t f0)
 {
-    bank_Known made;
-    made.tag = BANK_KNOWN_IS;
-    made.as.Is = f0;
+    bank_UnknownKind made;
+    made.f0 = f0;
     return made;
 }
 
-static inline bank_Known bank_Known_Unknown(void)
+static inline Result_Kind_UnknownKind Result_Kind_UnknownKind_Ok(bank_Kind f0)
 {
-    bank_Known made;
-    made.tag = BANK_KNOWN_UNKNOWN;
+    Result_Kind_UnknownKind made;
+    made.tag = RESULT_KIND_UNKNOWNKIND_OK;
+    made.as.Ok = f0;
+    return made;
+}
+
+static inline Result_Kind_UnknownKind Result_Kind_UnknownKind_Err(bank_UnknownKind f0)
+{
+    Result_Kind_UnknownKind made;
+    made.tag = RESULT_KIND_UNKNOWNKIND_ERR;
+    made.as.Err = f0;
     return made;
 }
 
@@ -2537,23 +2962,61 @@ static inline bank_Known bank_Known_Unknown(void)
 #pragma GCC diagnostic pop
 #endif
 
+// ---- core: the kit that the crates are written with
+
+// `core::slice::index::UsizeSliceIndexRefSlice::pick<u32>` of the kit's own library.
+static inline Option_ref_u32 core_UsizeSliceIndexRefSlice_pick_u32(uint64_t a, const uint32_t *b, size_t b_len)
+{
+    if (a < b_len) {
+        return Option_ref_u32_Some(b + a);
+    }
+    return Option_ref_u32_None();
+}
+
+// `core::option::more::Option+ref+T::copied<u32>` of the kit's own library.
+static inline Option_u32 core_Option_copied_u32(Option_ref_u32 a)
+{
+    if (a.tag == OPTION_REF_U32_SOME) {
+        return Option_u32_Some(a.as.Some[0u]);
+    } else {
+        return Option_u32_None();
+    }
+}
+
+// `core::option::Option::unwrap_or<u32>` of the kit's own library.
+static inline uint32_t core_Option_unwrap_or_u32(Option_u32 a, uint32_t b)
+{
+    if (a.tag == OPTION_U32_SOME) {
+        return a.as.Some;
+    } else {
+        return b;
+    }
+}
+
+// `core::slice::index::UsizeSliceIndexRefSlice::pick<u8>` of the kit's own library.
+static inline Option_ref_u8 core_UsizeSliceIndexRefSlice_pick_u8(uint64_t a, const unsigned char *b, size_t b_len)
+{
+    if (a < b_len) {
+        return Option_ref_u8_Some(b + (a << 0));
+    }
+    return Option_ref_u8_None();
+}
+
 // ---- asking: about a list of offsets at one walk
 
 // Marks the held blocks from `from` to `to`.
 static inline void asking_mark_run(const unsigned char *pool, size_t pool_len, uint64_t *m, size_t m_len, uint32_t from,
         uint32_t to)
 {
-    uint64_t end = (uint64_t)to;
-    uint64_t at = (uint64_t)from;
-    while (at < end) {
-        heads_Head head = heads_apart(words_get32(pool, pool_len, at));
-        if (head.size == 0u) {
-            return;
+    walk_Blocks value = walk_Blocks_below(pool, pool_len, from, to);
+    for (;;) {
+        Option_Block value2 = walk_Blocks_next(&value);
+        if (value2.tag != OPTION_BLOCK_SOME) {
+            break;
         }
-        uint32_t start = (uint32_t)at;
-        at = at + (uint64_t)head.size;
-        if (head.held) {
-            marks_mark(m, m_len, start);
+        walk_Block block = value2.as.Some;
+        if (block.head.held) {
+            marks_mark(m, m_len, (uint32_t)block.start);
         }
     }
 }
@@ -2561,10 +3024,8 @@ static inline void asking_mark_run(const unsigned char *pool, size_t pool_len, u
 // Each offset that is not 0 uses up the mark of the block that starts 4 below it.
 static inline int asking_used_up(uint64_t *m, size_t m_len, const uint32_t *offsets, size_t offsets_len)
 {
-    uint64_t i = 0u;
-    while (i < offsets_len) {
+    for (uint64_t i = 0u; i < offsets_len; i++) {
         uint32_t offset = offsets[i];
-        i = i + 1u;
         if (offset == 0u) {
             continue;
         }
@@ -2584,8 +3045,8 @@ static inline int asking_all_held(const unsigned char *pool, size_t pool_len, co
     for (size_t each = 0u; each < 128u; each++) {
         m[each] = 0u;
     }
-    uint32_t start = words_get32(pool, pool_len, PAPER_START);
-    uint32_t end = words_get32(pool, pool_len, PAPER_END);
+    uint32_t start = words_get_u32(pool, pool_len, PAPER_START);
+    uint32_t end = words_get_u32(pool, pool_len, PAPER_END);
     asking_mark_run(pool, pool_len, m, 128u, PAPER_BLOCKS, start);
     asking_mark_run(pool, pool_len, m, 128u, end, walk_pool_end(pool, pool_len));
     return asking_used_up(m, 128u, offsets, offsets_len);
@@ -2596,65 +3057,66 @@ static inline int asking_all_held(const unsigned char *pool, size_t pool_len, co
 // The number at a place; 0 past the end.
 static inline uint32_t pool_number_at(const uint32_t *list, size_t list_len, uint32_t place)
 {
-    uint64_t i = (uint64_t)place;
-    if (i < list_len) {
-        return list[i];
-    }
-    return 0u;
+    return core_Option_unwrap_or_u32(core_Option_copied_u32(core_UsizeSliceIndexRefSlice_pick_u32((uint64_t)place, list, list_len)), 0u);
 }
 
 // The bytes of the payload whose offset stands at `place` of the list, 0 where none does. The whole list is asked, at one reading: each of
 // its offsets but 0 must be that of a held payload, and stand there once.
-static inline paper_Answer pool_ask_all(const unsigned char *pool, size_t pool_len, const uint32_t *offsets, size_t offsets_len,
-        uint32_t place)
+static inline Result_u32_Refusal pool_ask_all(const unsigned char *pool, size_t pool_len, const uint32_t *offsets,
+        size_t offsets_len, uint32_t place)
 {
-    uint8_t why = reading_refusal(pool, pool_len);
-    if (why != 0u) {
-        return paper_Answer_Refused(why);
+    Result_void_Refusal value = reading_check(pool, pool_len);
+    if (value.tag != RESULT_VOID_REFUSAL_OK) {
+        return Result_u32_Refusal_Err(value.as.Err);
     }
     if (!asking_all_held(pool, pool_len, offsets, offsets_len)) {
-        return paper_Answer_Refused(PAPER_NOT_HELD);
+        return Result_u32_Refusal_Err(paper_Refusal_NotHeld());
     }
     uint32_t offset = pool_number_at(offsets, offsets_len, place);
     if (offset == 0u) {
-        return paper_Answer_Done(0u);
+        return Result_u32_Refusal_Ok(0u);
     }
     return serving_ask(pool, pool_len, offset);
 }
 
 // ---- bank: the piston bank, a product above the pool
 
-// 10 for a piston above 31, else what is asked after it.
-static inline uint8_t bank_past(uint32_t piston, uint8_t next)
+// Refused for a piston above 31.
+static inline Result_void_Refusal bank_check(uint32_t piston)
 {
     if (piston < BANK_PISTONS) {
-        return next;
+        return Result_void_Refusal_Ok();
     }
-    return BANK_NO_PISTON;
+    return Result_void_Refusal_Err(paper_Refusal_NoPiston());
 }
 
-// 12 in its place: a piston above 31 is told first.
-static inline uint8_t bank_ordered(uint32_t piston, uint8_t why)
+// What is asked of the pool for a call, at one reading: the bytes of the payload that the piston names, 0 where it is empty; or the first of
+// 1, 2, 10 and 12 that refuses. A piston above 31 is told before a bank that names what is not held.
+static inline Result_u32_Refusal bank_asked(const unsigned char *pool, size_t pool_len, const uint32_t bank[32], uint32_t piston)
 {
-    if (why == PAPER_NOT_HELD) {
-        return bank_past(piston, BANK_NOT_NAMED);
-    }
-    return why;
-}
-
-static inline bank_Told bank_asked(const unsigned char *pool, size_t pool_len, const uint32_t bank[32], uint32_t piston)
-{
-    paper_Answer value = pool_ask_all(pool, pool_len, bank, 32u, piston);
-    if (value.tag == PAPER_ANSWER_DONE) {
-        uint32_t long_ = value.as.Done;
-        return bank_Told_of(bank_past(piston, 0u), long_);
+    Result_u32_Refusal value = pool_ask_all(pool, pool_len, bank, 32u, piston);
+    if (value.tag == RESULT_U32_REFUSAL_OK) {
+        uint32_t long_ = value.as.Ok;
+        Result_void_Refusal value2 = bank_check(piston);
+        if (value2.tag != RESULT_VOID_REFUSAL_OK) {
+            return Result_u32_Refusal_Err(value2.as.Err);
+        }
+        return Result_u32_Refusal_Ok(long_);
     } else {
-        uint8_t why = value.as.Refused;
-        return bank_Told_of(bank_ordered(piston, why), 0u);
+        if (value.as.Err.tag == PAPER_REFUSAL_NOT_HELD) {
+            Result_void_Refusal value2 = bank_check(piston);
+            if (value2.tag != RESULT_VOID_REFUSAL_OK) {
+                return Result_u32_Refusal_Err(value2.as.Err);
+            }
+            return Result_u32_Refusal_Err(paper_Refusal_NotNamed());
+        } else {
+            paper_Refusal why = value.as.Err;
+            return Result_u32_Refusal_Err(why);
+        }
     }
 }
 
-// Gives the block of a piston's old setting back, if it had one.
+// Gives the block of a piston's old setting back, if it had one. It is held, since the bank names it, so its bytes are all that is answered.
 static inline void bank_release(unsigned char *pool, size_t pool_len, uint32_t old)
 {
     if (old != 0u) {
@@ -2663,149 +3125,153 @@ static inline void bank_release(unsigned char *pool, size_t pool_len, uint32_t o
 }
 
 // Clears a piston; one that is empty stays as it is. Answers n.
-static inline paper_Answer bank_lib_clear(unsigned char *pool, size_t pool_len, uint32_t bank[32], uint32_t piston)
+static inline Result_u32_Refusal bank_lib_clear(unsigned char *pool, size_t pool_len, uint32_t bank[32], uint32_t piston)
 {
-    bank_Told asked = bank_asked(pool, pool_len, bank, piston);
-    if (asked.why != 0u) {
-        return paper_Answer_Refused(asked.why);
+    Result_u32_Refusal value = bank_asked(pool, pool_len, bank, piston);
+    if (value.tag != RESULT_U32_REFUSAL_OK) {
+        return Result_u32_Refusal_Err(value.as.Err);
     }
     uint64_t at = (uint64_t)piston;
     uint32_t offset = bank[at];
     bank[at] = 0u;
     bank_release(pool, pool_len, offset);
-    return paper_Answer_Done((uint32_t)pool_len);
+    return Result_u32_Refusal_Ok((uint32_t)pool_len);
 }
 
 // The empty part at the pool's end.
-static inline bank_Place bank_nothing(const unsigned char *pool, size_t pool_len, uint8_t number)
+static inline bank_Place bank_nothing(const unsigned char *pool, size_t pool_len, Option_Refusal refusal)
 {
     (void)pool;
-    uint64_t n = pool_len;
-    return bank_Place_of(number, n, n);
+    uint64_t end = pool_len;
+    return bank_Place_of(refusal, end, end);
 }
 
-static inline bank_Known bank_kind_of(uint8_t number)
+static inline Result_Kind_UnknownKind bank_Kind_try_from(uint8_t number)
 {
     if (number == 1u) {
-        return bank_Known_Is(bank_Kind_Eight());
+        return Result_Kind_UnknownKind_Ok(bank_Kind_Eight());
+    } else if (number == 2u) {
+        return Result_Kind_UnknownKind_Ok(bank_Kind_Sixteen());
+    } else if (number == 3u) {
+        return Result_Kind_UnknownKind_Ok(bank_Kind_ThirtyTwo());
+    } else {
+        return Result_Kind_UnknownKind_Err(bank_UnknownKind_of(number));
     }
-    if (number == 2u) {
-        return bank_Known_Is(bank_Kind_Sixteen());
-    }
-    if (number == 3u) {
-        return bank_Known_Is(bank_Kind_ThirtyTwo());
-    }
-    return bank_Known_Unknown();
 }
 
-// How many bytes the body has.
-static inline uint32_t bank_body_of(bank_Kind kind)
+static inline uint32_t bank_Kind_body(bank_Kind self)
 {
-    if (kind.tag == BANK_KIND_EIGHT) {
+    if (self.tag == BANK_KIND_EIGHT) {
         return 8u;
-    } else if (kind.tag == BANK_KIND_SIXTEEN) {
+    } else if (self.tag == BANK_KIND_SIXTEEN) {
         return 16u;
     } else {
         return 32u;
     }
 }
 
-// How many bytes of the payload are its record; 0 where none reads.
-static inline uint32_t bank_record_in(const unsigned char *payload, size_t payload_len)
+// How many bytes of the payload are its record; nothing where none reads.
+static inline Option_u32 bank_record_in(const unsigned char *payload, size_t payload_len)
 {
-    if (payload_len == 0u) {
-        return 0u;
+    Option_ref_u8 value = core_UsizeSliceIndexRefSlice_pick_u8(0u, payload, payload_len);
+    if (value.tag != OPTION_REF_U8_SOME) {
+        return Option_u32_None();
     }
-    bank_Known value = bank_kind_of(payload[0u]);
-    if (value.tag != BANK_KNOWN_IS) {
-        return 0u;
+    uint8_t number = value.as.Some[0u];
+    Result_Kind_UnknownKind value2 = bank_Kind_try_from(number);
+    if (value2.tag != RESULT_KIND_UNKNOWNKIND_OK) {
+        return Option_u32_None();
     }
-    bank_Kind k = value.as.Is;
-    uint32_t size = 1u + bank_body_of(k);
+    bank_Kind kind = value2.as.Ok;
+    uint32_t size = 1u + bank_Kind_body(kind);
     if (payload_len < (uint64_t)size) {
-        return 0u;
+        return Option_u32_None();
     }
-    return size;
+    return Option_u32_Some(size);
 }
 
 // Where the record of a piston stands.
 static inline bank_Place bank_find(const unsigned char *pool, size_t pool_len, const uint32_t bank[32], uint32_t piston)
 {
-    bank_Told asked = bank_asked(pool, pool_len, bank, piston);
-    if (asked.why != 0u) {
-        return bank_nothing(pool, pool_len, asked.why);
+    Result_u32_Refusal value = bank_asked(pool, pool_len, bank, piston);
+    if (value.tag != RESULT_U32_REFUSAL_OK) {
+        paper_Refusal why = value.as.Err;
+        return bank_nothing(pool, pool_len, Option_Refusal_Some(why));
     }
+    uint32_t long2 = value.as.Ok;
+    uint32_t long_ = long2;
     uint64_t at = (uint64_t)piston;
     uint32_t offset = bank[at];
     if (offset == 0u) {
-        return bank_nothing(pool, pool_len, 0u);
+        return bank_nothing(pool, pool_len, Option_Refusal_None());
     }
     uint64_t from = (uint64_t)offset;
-    uint64_t end = from + (uint64_t)asked.long_;
-    uint32_t size = bank_record_in(pool + from, (size_t)(end - from));
-    if (size == 0u) {
-        return bank_nothing(pool, pool_len, BANK_NOT_NAMED);
+    uint64_t end = from + (uint64_t)long_;
+    Option_u32 value2 = bank_record_in(pool + from, (size_t)(end - from));
+    if (value2.tag != OPTION_U32_SOME) {
+        return bank_nothing(pool, pool_len, Option_Refusal_Some(paper_Refusal_NotNamed()));
     }
-    return bank_Place_of(0u, from, from + (uint64_t)size);
+    uint32_t size = value2.as.Some;
+    return bank_Place_of(Option_Refusal_None(), from, from + (uint64_t)size);
 }
 
 // How many bytes the record of a piston has, its byte of kind included, 0 where it is empty: for a caller who has the bank, and so knows
 // that the record starts at the piston's offset.
-static inline paper_Answer bank_ask(const unsigned char *pool, size_t pool_len, const uint32_t bank[32], uint32_t piston)
+static inline Result_u32_Refusal bank_ask(const unsigned char *pool, size_t pool_len, const uint32_t bank[32], uint32_t piston)
 {
     bank_Place place = bank_find(pool, pool_len, bank, piston);
-    if (place.number != 0u) {
-        return paper_Answer_Refused(place.number);
+    if (place.refusal.tag == OPTION_REFUSAL_SOME) {
+        paper_Refusal why = place.refusal.as.Some;
+        return Result_u32_Refusal_Err(why);
     }
-    return paper_Answer_Done((uint32_t)(place.to - place.from));
+    return Result_u32_Refusal_Ok((uint32_t)(place.to - place.from));
 }
 
-// Whether a kind and a body make a record.
-static inline int bank_is_record(uint8_t kind, const unsigned char *body, size_t body_len)
+// Refused where a kind and a body make no record.
+static inline Result_void_Refusal bank_records_check(uint8_t kind, const unsigned char *body, size_t body_len)
 {
     (void)body;
-    bank_Known value = bank_kind_of(kind);
-    if (value.tag != BANK_KNOWN_IS) {
-        return 0;
+    Result_Kind_UnknownKind value = bank_Kind_try_from(kind);
+    if (value.tag != RESULT_KIND_UNKNOWNKIND_OK) {
+        return Result_void_Refusal_Err(paper_Refusal_NoRecord());
     }
-    bank_Kind k = value.as.Is;
-    return body_len == (uint64_t)bank_body_of(k);
+    bank_Kind known = value.as.Ok;
+    if (body_len != (uint64_t)bank_Kind_body(known)) {
+        return Result_void_Refusal_Err(paper_Refusal_NoRecord());
+    }
+    return Result_void_Refusal_Ok();
 }
 
 // Puts the byte of kind, then the body, at the start of a part.
 static inline void bank_write(unsigned char *part, size_t part_len, uint8_t kind, const unsigned char *body, size_t body_len)
 {
-    if (part_len == 0u) {
+    if (part_len != 1u + (uint64_t)body_len) {
         return;
     }
     part[0u] = kind;
-    uint64_t i = 0u;
-    while (i < body_len) {
-        if (part_len <= i + 1u) {
-            return;
-        }
+    for (uint64_t i = 0u; i < body_len; i++) {
         part[i + 1u] = body[i];
-        i = i + 1u;
     }
 }
 
 // Sets a piston: a new block has the record, then the old one is given back. With no room the old setting stays. Answers n.
-static inline paper_Answer bank_lib_set(unsigned char *pool, size_t pool_len, uint32_t bank[32], uint32_t piston, uint8_t kind,
-        const unsigned char *body, size_t body_len)
+static inline Result_u32_Refusal bank_lib_set(unsigned char *pool, size_t pool_len, uint32_t bank[32], uint32_t piston,
+        uint8_t kind, const unsigned char *body, size_t body_len)
 {
-    bank_Told asked = bank_asked(pool, pool_len, bank, piston);
-    if (asked.why != 0u) {
-        return paper_Answer_Refused(asked.why);
+    Result_u32_Refusal value = bank_asked(pool, pool_len, bank, piston);
+    if (value.tag != RESULT_U32_REFUSAL_OK) {
+        return Result_u32_Refusal_Err(value.as.Err);
     }
-    if (!bank_is_record(kind, body, body_len)) {
-        return paper_Answer_Refused(BANK_NO_RECORD);
+    Result_void_Refusal value2 = bank_records_check(kind, body, body_len);
+    if (value2.tag != RESULT_VOID_REFUSAL_OK) {
+        return Result_u32_Refusal_Err(value2.as.Err);
     }
     uint64_t size = (uint64_t)body_len + 1u;
-    paper_Answer taken = pool_lib_take(pool, pool_len, (uint32_t)size);
-    if (taken.tag != PAPER_ANSWER_DONE) {
-        return taken;
+    Result_u32_Refusal value3 = pool_lib_take(pool, pool_len, (uint32_t)size);
+    if (value3.tag != RESULT_U32_REFUSAL_OK) {
+        return Result_u32_Refusal_Err(value3.as.Err);
     }
-    uint32_t offset = taken.as.Done;
+    uint32_t offset = value3.as.Ok;
     uint64_t from = (uint64_t)offset;
     uint64_t to = from + size;
     bank_write(pool + from, (size_t)(to - from), kind, body, body_len);
@@ -2813,7 +3279,7 @@ static inline paper_Answer bank_lib_set(unsigned char *pool, size_t pool_len, ui
     uint32_t old = bank[at];
     bank[at] = offset;
     bank_release(pool, pool_len, old);
-    return paper_Answer_Done((uint32_t)pool_len);
+    return Result_u32_Refusal_Ok((uint32_t)pool_len);
 }
 
 // ---- board: the public calls for C

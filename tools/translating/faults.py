@@ -55,7 +55,9 @@ fault("Add Unsigned", "the difference")(lambda own, bits, a, b: FORMS["Sub Unsig
 fault("Add Unsigned", "64 bits in 32")(lambda own, bits, a, b: Text.of(f"(uint32_t)({own(bits, a, b)})", UNARY) if bits == 64 else None)
 fault("Sub Unsigned", "operands exchanged")(lambda own, bits, a, b: own(bits, b, a))
 fault("Sub Unsigned", "the sum")(lambda own, bits, a, b: FORMS["Add Unsigned"](bits, a, b))
+fault("Add Signed", "the difference")(lambda own, bits, a, b: FORMS["Sub Signed"](bits, a, b))
 fault("Sub Signed", "operands exchanged")(lambda own, bits, a, b: own(bits, b, a))
+fault("Mul Unsigned", "the sum")(lambda own, bits, a, b: FORMS["Add Unsigned"](bits, a, b))
 fault("Mul Unsigned, by 2^k", "one bit less")(lambda own, a, k: own(a, k - 1))
 fault("Mul Unsigned, by 2^k", "64 bits in 32")(lambda own, a, k: Text.of("0u", 15) if k >= 32 else None)
 fault("Div Unsigned, by 2^k", "one bit more")(lambda own, a, k: own(a, k + 1))
@@ -100,10 +102,17 @@ fault("Cast Unsigned Unsigned", "7 bits of 8")(
     lambda own, bits, a: cast("uint8_t", Text.of(f"({a.at(UNARY)} & 127u)", 15)) if bits == 8 else None)
 fault("Cast Unsigned Signed", "the sign bit turned over")(lambda own, bits, a: Text.of(f"({a.at(UNARY)} ^ 0x80000000u)", 15))
 fault("Cast Signed Unsigned", "the sign bit turned over")(lambda own, bits, a: Text.of(f"({a.at(UNARY)} ^ 0x80000000u)", 15))
-fault("wrapping_add_u32", "it does not wrap")(lambda own, a, b: Text.of(f"({a} > 0xffffffffu - {b} ? 0xffffffffu : {a} + {b})", 15))
-fault("wrapping_add_u32", "the difference")(lambda own, a, b: FORMS["wrapping_sub_u32"](a, b))
-fault("wrapping_sub_u32", "it does not wrap")(lambda own, a, b: Text.of(f"({a} < {b} ? 0u : {a} - {b})", 15))
-fault("wrapping_sub_u32", "operands exchanged")(lambda own, a, b: own(b, a))
+fault("WrapAdd", "it does not wrap")(
+    lambda own, bits, a, b: Text.of(f"({a} > 0xffffffffu - {b} ? 0xffffffffu : {a} + {b})", 15) if bits == 32 else None)
+fault("WrapAdd", "the difference")(lambda own, bits, a, b: FORMS["WrapSub"](bits, a, b))
+fault("WrapSub", "it does not wrap")(lambda own, bits, a, b: Text.of(f"({a} < {b} ? 0u : {a} - {b})", 15) if bits == 32 else None)
+fault("WrapSub", "operands exchanged")(lambda own, bits, a, b: own(bits, b, a))
+fault("Both", "either")(lambda own, a, b: FORMS["Either"](a, b))
+fault("Both", "the left one alone")(lambda own, a, b: a)
+fault("Both", "the right one alone")(lambda own, a, b: b)
+fault("Either", "both")(lambda own, a, b: FORMS["Both"](a, b))
+fault("Either", "the left one alone")(lambda own, a, b: a)
+fault("Either", "the right one alone")(lambda own, a, b: b)
 
 # ---- structs, enums, slices
 
@@ -112,7 +121,10 @@ fault("tag", "always the first")(lambda own, of: Text.of("0", 15))
 fault("field of a variant", "the other one of two numbers")(
     lambda own, of, variant, number, count: own(of, variant, 1 - number, count) if variant in ("Held", "FirstOfBin") else None)
 fault("field of a variant", "8 bits of 32")(
-    lambda own, of, variant, number, count: cast("uint8_t", own(of, variant, number, count)) if variant == "Done" else None)
+    lambda own, of, variant, number, count: cast("uint8_t", own(of, variant, number, count)) if variant in ("Held", "Free", "Remainder") else None)
+fault("is of a variant", "is not")(lambda own, tag, name: Text.of(f"{tag} != {name}", 9))
+fault("address", "of a copy")(lambda own, of: Text.of(f"&(__typeof__({of})[]){{{of}}}[0]", UNARY))
+fault("what a pointer leads to", "the next one")(lambda own, pointer: Text.of(f"{pointer.at(14)}[1]", 14))
 fault("struct", "fields turned round")(lambda own, name, fields: own(name, fields[1:] + fields[:1]))
 OTHER = {"Done": "Refused", "Refused": "Done", "Held": "Free", "HighEnd": "LowEnd", "LowEnd": "HighEnd", "ExactBin": "LargerBin",
          "LargerBin": "ExactBin", "Eight": "Sixteen", "Sixteen": "ThirtyTwo", "ThirtyTwo": "Eight"}
@@ -151,11 +163,17 @@ fault("do", "twice")(lambda own, value: own(value) + own(value))
 fault("if", "its test turned round")(lambda own, test, then, other: own(Text.of(f"!({test})", UNARY), then, other))
 fault("if", "always taken")(lambda own, test, then, other: own(Text.of("1", 15), then, other))
 fault("if", "never taken")(lambda own, test, then, other: own(Text.of("0", 15), then, other))
-fault("switch", "the first two arms exchanged")(lambda own, tag, tags, arms: own(tag, [tags[1], tags[0], *tags[2:]], arms))
-fault("switch, leaving", "where it is the first")(
-    lambda own, tag, tags, other: [own(tag, tags, [])[0].replace("!=", "==")] + own(tag, tags, other)[1:])
+fault("switch", "the first two arms exchanged")(lambda own, tag, tags, arms: own(tag, tags, [arms[1], arms[0], *arms[2:]]))
+fault("switch", "of an arm for more than one only the first")(
+    lambda own, tag, tags, arms: own(tag, [arm[:1] for arm in tags], arms) if any(len(arm) > 1 for arm in tags[:-1]) else None)
+fault("switch, leaving", "where it is the variant")(
+    lambda own, tag, wanted, other: [own(tag, wanted, [])[0].replace("!=", "==")] + own(tag, wanted, other)[1:])
 fault("while", "tested after its body")(lambda own, test, body: ["do {"] + indented(body) + [f"}} while ({test});"])
 fault("while", "one turn at most")(lambda own, test, body: [re.sub(r"\bcontinue;", ";", line) for line in FORMS["if"](test, body, [])])
+fault("for", "one turn at most")(lambda own, first, test, step, body: own(first, test, step, body + ["break;"]))
+fault("for", "from the next one")(lambda own, first, test, step, body: own(f"{first} + 1u", test, step, body))
+fault("step", "one more")(lambda own, name, more: f"{name} += {more} + 1u")
+fault("break", "left out")(lambda own: [";"])
 fault("loop", "one turn")(lambda own, body: ["do {"] + indented(body) + ["} while (0);"])
 fault("continue", "left out")(lambda own: [";"])
 fault("return a value", "one more")(lambda own, value, c_type: own(plus_one(value), c_type) if number_type(c_type) else None)

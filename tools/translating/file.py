@@ -3,10 +3,10 @@
 import os
 import re
 
-from forms import COUNTS, KIT, write
-from source import Sources
-from tree import Call, Named, Unknown, everything, inside, values
-from writing import KEPT, Names, Writer, broken, c_type
+from forms import COUNTS, write
+from source import Function, Sources, Type
+from tree import Call, Named, Slice, Unknown, everything, inside, values
+from writing import KEPT, Names, Writer, broken, declared, parts_of
 
 HEADING = '''\
 /* The pool and the piston bank for any processor: C99 for a compiler that has <stddef.h> and <stdint.h>, and no library.
@@ -14,7 +14,8 @@ HEADING = '''\
    Made by tools/c99 from the checked MIR of the proved crates, with a function for each of theirs: do not edit it, edit the crates. What is
    proved is that program. That this file does the same is tested, not proved: docs/BOARD.md says how, and how to use the file.
 
-   Names say where a function comes from: bins_enter is `enter` of the crate bins. A slice of Rattle's is a pointer and a length, NAME and
+   Names say where a function comes from: bins_enter is `enter` of the crate bins; runs_scan_Small is its `scan` for the type `Small`, and
+   Option_u32 a u32 that may be absent. A slice of Rattle's is a pointer and a length, NAME and
    NAME_len; its usize is uint64_t, since the proofs are about 64 bits, whatever size_t is here. Every number is unsigned: a signed
    distance is its two's complement. A truth is 0 or 1. Bytes of the pool are read and written one by one, so neither its alignment nor
    the machine's byte order matters.
@@ -30,11 +31,21 @@ QUIET = ["// One member of a union is set, and maybe not the widest: gcc warns o
 LOUD = ["#if defined(__GNUC__) && !defined(__clang__)", "#pragma GCC diagnostic pop", "#endif", ""]
 
 
+LIBRARY = {"core::option::Option": Type(["A value that may be absent."], ["None", "Some"]),
+           "core::result::Result": Type(["A value, or why there is none."], ["Ok", "Err"])}
+
+
+def both(ty, name):
+    """The C members of a field: of a slice its start and its length."""
+    return [name, f"{name}_len"] if isinstance(ty, Slice) else [name]
+
+
 class File:
     def __init__(self, root, crates, program, fault=None):
         self.root, self.crates, self.program, self.sources = root, crates, program, Sources(root, crates.names, "board_c")
         self.fault = fault
-        self.used_types, self.makers, self.used_constants, self.used_counts = [], {}, {}, set()
+        program.sourceless = lambda name: name not in self.sources.functions
+        self.used_types, self.makers, self.used_constants, self.used_counts, self.homes = [], {}, {}, set(), {}
         self.headers = self.read_headers()
 
     # ---- what is there
@@ -48,9 +59,12 @@ class File:
         return found
 
     def source(self, path):
-        if path not in self.sources.functions:
-            raise Unknown(f"no source has the function {path}")
-        return self.sources.functions[path]
+        """The source of a function; where none has it, it is of the kit's library, or a derive made it."""
+        base = path.partition("<")[0]
+        if base in self.sources.functions:
+            return self.sources.functions[base]
+        return Function([f"`{path}` of the kit's own library." if base.startswith("core::") else "Derived."],
+                        list("abcdef")[:self.program.raw[base]["params"]], "", False, True)
 
     def ascii(self, line):
         line = line.replace("×", "x")
@@ -75,8 +89,17 @@ class File:
     def use_maker(self, path, variant):
         self.makers.setdefault(path, set()).add(variant)
 
+    def declaration(self, path):
+        """The source of a type, or what it would be for one of the kit's library."""
+        base = path.partition("<")[0]
+        if base.startswith("("):
+            return Type(["A tuple."], [f"f{at}" for at in range(base.count(",") + 1)])
+        if base.startswith("core::") and base not in LIBRARY:
+            return Type([f"`{path}` of the kit's own library."], [f"f{at}" for at in range(len(self.program.all_fields(path, None)))])
+        return LIBRARY.get(base) or self.sources.types[base]
+
     def members(self, path):
-        members = self.sources.types[path].members
+        members = self.declaration(path).members
         count = len(self.program.fields(path) or self.program.variants(path))
         if len(members) != count:
             raise Unknown(f"the source of {path} has {len(members)} members, and MIR {count}")
@@ -90,7 +113,8 @@ class File:
         if len(paths) != 1:
             return None
         path = paths.pop()
-        name = f"{path.split('::')[0]}_{path.split('::')[-1]}".upper()
+        owner = self.sources.owners.get(path.rpartition("::")[0])
+        name = "_".join([path.split("::")[0], *([owner] if owner else []), path.split("::")[-1]]).upper()
         if self.headers.get(name) == value:
             return name
         if name in self.headers or self.used_constants.setdefault(name, value) != value:
@@ -103,7 +127,7 @@ class File:
         found = []
         for statement in everything(self.program.fn(path).body):
             for value in values(statement):
-                found += [v.name for v in inside(value) if isinstance(v, Call) and v.name not in KIT]
+                found += [v.name for v in inside(value) if isinstance(v, Call)]
         return found
 
     def reach(self, paths):
@@ -134,7 +158,7 @@ class File:
             raise Unknown("the crate board_c exports no call")
         pool = self.reach([p for n, p in exported.items() if n.startswith("pool_")])
         every = self.reach(exported.values())
-        self.names = Names(exported, every)
+        self.names = Names(exported, every, self.sources.owners)
         first = self.part([p for p in every if p in pool])
         common = self.take_used()
         second = self.part([p for p in every if p not in pool])
@@ -149,20 +173,27 @@ class File:
             *self.declared(extra), *second,
             "#endif", ""])
 
+    def home(self, path):
+        """The crate by which a function stands: its own, or a higher one that a function is from which it calls."""
+        order = ["core", *self.crates.names]
+        if path not in self.homes:
+            if path.split("::")[0] not in order:
+                raise Unknown("a function of a crate that crates.txt has not")
+            self.homes[path] = max([path.split("::")[0], *map(self.home, self.callees(path))], key=order.index)
+        return self.homes[path]
+
     def part(self, paths):
         """The functions by crates, from the bottom up."""
         lines = []
-        for crate in self.crates.names:
-            own = [p for p in paths if p.split("::")[0] == crate]
+        for crate in ["core", *self.crates.names]:
+            own = [p for p in paths if self.home(p) == crate]
             if own:
-                lines += [f"// ---- {crate}: {self.ascii(self.crates.about[crate])}", ""]
+                lines += [f"// ---- {crate}: {self.ascii(self.crates.about.get(crate, 'the kit that the crates are written with'))}", ""]
             for path in own:
                 try:
                     lines += Writer(self, path).write() + [""]
                 except Unknown as why:
                     raise Unknown(f"{path}: {why}")
-        if {p.split("::")[0] for p in paths} - set(self.crates.names):
-            raise Unknown("a function of a crate that crates.txt has not")
         return lines
 
     def take_used(self):
@@ -197,20 +228,21 @@ class File:
 
     def type(self, path):
         name, members = self.names.type(path), self.members(path)
-        lines = [f"// {self.ascii(line)}" for line in self.sources.types[path].comment]
+        lines = [f"// {self.ascii(line)}" for line in self.declaration(path).comment]
         fields = self.program.fields(path)
         if fields is not None:
-            return lines + ["typedef struct {"] + [f"    {c_type(t, self.names)} {m};" for t, m in zip(fields, members)] + [f"}} {name};"]
+            parts = [part for t, m in zip(fields, members) for part in declared(t, m, self.names)]
+            return lines + ["typedef struct {"] + [f"    {part};" for part in parts] + [f"}} {name};"]
         variants = self.program.variants(path)
         lines += broken("enum { ", [self.names.tag(name, m) for m in members], " };") + ["typedef struct {", "    uint8_t tag;"]
         holding = [(m, v) for m, v in zip(members, variants) if v]
         if holding:
             lines.append("    union {")
             for member, held in holding:
-                if len(held) == 1:
-                    lines.append(f"        {c_type(held[0], self.names)} {member};")
+                if parts_of(held) == 1:
+                    lines.append(f"        {declared(held[0], member, self.names)[0]};")
                 else:
-                    parts = " ".join(f"{c_type(t, self.names)} f{i};" for i, t in enumerate(held))
+                    parts = " ".join(f"{part};" for i, t in enumerate(held) for part in declared(t, f"f{i}", self.names))
                     lines.append(f"        struct {{ {parts} }} {member};")
             lines.append("    } as;")
         return lines + [f"}} {name};"]
@@ -220,12 +252,13 @@ class File:
         name, members = self.names.type(path), self.members(path)
         if variant is None:
             fields = self.program.fields(path)
-            params = [f"{c_type(t, self.names)} {m}" for t, m in zip(fields, members)]
-            return broken(f"static inline {name} {name}_of(", params, ")") + ["{", f"    {name} made;"] + \
-                [f"    made.{m} = {m};" for m in members] + ["    return made;", "}"]
+            params = [part for t, m in zip(fields, members) for part in declared(t, m, self.names)]
+            return broken(f"static inline {name} {name}_of(", params or ["void"], ")") + ["{", f"    {name} made;"] + \
+                [f"    made.{m} = {m};" for t, member in zip(fields, members) for m in both(t, member)] + ["    return made;", "}"]
         held, member = self.program.variants(path)[variant], members[variant]
-        params = ", ".join(f"{c_type(t, self.names)} f{i}" for i, t in enumerate(held)) or "void"
+        params = ", ".join(part for i, t in enumerate(held) for part in declared(t, f"f{i}", self.names)) or "void"
         lines = [f"static inline {name} {name}_{member}({params})", "{", f"    {name} made;",
                  f"    made.tag = {self.names.tag(name, member)};"]
-        lines += [f"    made.as.{member}{'' if len(held) == 1 else f'.f{i}'} = f{i};" for i in range(len(held))]
+        lines += [f"    made.as.{member}{'' if parts_of(held) == 1 else f'.{part}'} = {part};"
+                  for i, t in enumerate(held) for part in both(t, f"f{i}")]
         return lines + ["    return made;", "}"]

@@ -23,7 +23,7 @@ class Text(str):
 
 
 # C's own levels; what a shift or a bit operation stands on is put into parentheses, as compilers ask for
-POSTFIX, UNARY, MUL, ADD, COMPARE, BITS = 14, 13, 12, 11, 9, 7
+POSTFIX, UNARY, MUL, ADD, COMPARE, BITS, AND, OR = 14, 13, 12, 11, 9, 7, 4, 3
 
 WIDTH = {8: "uint8_t", 32: "uint32_t", 64: "uint64_t"}
 
@@ -72,10 +72,21 @@ def sub(bits, a, b):
     return Text.of(f"{a.at(ADD)} - {b.at(MUL)}", ADD)
 
 
+@form("Add Signed")
+def add_signed(bits, a, b):
+    # two's complement: the sum's bits are those of the unsigned one
+    return Text.of(f"({WIDTH[bits]})({a.at(ADD)} + {b.at(MUL)})", UNARY)
+
+
 @form("Sub Signed")
 def sub_signed(bits, a, b):
     # two's complement: the difference's bits are those of the unsigned one
     return Text.of(f"({WIDTH[bits]})({a.at(ADD)} - {b.at(MUL)})", UNARY)
+
+
+@form("Mul Unsigned")
+def mul(bits, a, b):
+    return Text.of(f"{a.at(MUL)} * {b.at(UNARY)}", MUL)
 
 
 @form("Mul Unsigned, by 2^k")
@@ -244,37 +255,67 @@ def cast_unsigned(bits, a):
     return a
 
 
-# The kit's own library is not translated. The pool calls two functions of it, of two numbers of 32 bits each; their contracts are the
-# sum and the difference modulo 2^32, which are C's own.
-KIT = {"core::num::wrapping_add_u32": "wrapping_add_u32", "core::num::wrapping_sub_u32": "wrapping_sub_u32"}
+@form("WrapAdd")
+def wrapping_add(bits, a, b):
+    return Text.of(f"({WIDTH[bits]})({a.at(ADD)} + {b.at(MUL)})", UNARY)
 
 
-@form("wrapping_add_u32")
-def wrapping_add(a, b):
-    return Text.of(f"(uint32_t)({a.at(ADD)} + {b.at(MUL)})", UNARY)
+@form("WrapSub")
+def wrapping_sub(bits, a, b):
+    return Text.of(f"({WIDTH[bits]})({a.at(ADD)} - {b.at(MUL)})", UNARY)
 
 
-@form("wrapping_sub_u32")
-def wrapping_sub(a, b):
-    return Text.of(f"(uint32_t)({a.at(ADD)} - {b.at(MUL)})", UNARY)
+def beside(text, level):
+    """An operand of && or ||: compilers ask for parentheses around the other of the two."""
+    return text if text.level == level else text.at(COMPARE)
+
+
+@form("Both")
+def both(a, b):
+    return Text.of(f"{beside(a, AND)} && {beside(b, AND)}", AND)
+
+
+@form("Either")
+def either(a, b):
+    return Text.of(f"{beside(a, OR)} || {beside(b, OR)}", OR)
 
 
 # ---- structs, enums, slices
 
+def member(of, name):
+    """A member; of `(*p)` it is `p->name`."""
+    return Text.of(f"{of[1:]}->{name}" if of.startswith("*") else f"{of.at(POSTFIX)}.{name}", POSTFIX)
+
+
 @form("field of a struct")
 def field(of, names, number):
-    return Text.of(f"{of.at(POSTFIX)}.{names[number]}", POSTFIX)
+    return member(of, names[number])
 
 
 @form("tag")
 def tag_of(of):
-    return Text.of(f"{of.at(POSTFIX)}.tag", POSTFIX)
+    return member(of, "tag")
 
 
 @form("field of a variant")
 def held(of, variant, number, count):
     part = "" if count == 1 else f".f{number}"
-    return Text.of(f"{of.at(POSTFIX)}.as.{variant}{part}", POSTFIX)
+    return member(of, f"as.{variant}{part}")
+
+
+@form("is of a variant")
+def is_of(tag, name):
+    return Text.of(f"{tag} == {name}", COMPARE)
+
+
+@form("address")
+def address(of):
+    return Text.of(f"&{of.at(POSTFIX)}", UNARY)
+
+
+@form("what a pointer leads to")
+def pointed(pointer):
+    return Text.of(f"*{pointer.at(UNARY)}", UNARY)
 
 
 @form("struct")
@@ -320,7 +361,7 @@ def indented(lines):
 
 @form("declare a local")
 def declare_local(c_type, name, value):
-    return [f"{c_type} {name} = {value};"]
+    return [f"{c_type}{'' if c_type.endswith('*') else ' '}{name} = {value};"]
 
 
 @form("set a local")
@@ -351,17 +392,18 @@ def if_else(test, then, other):
 
 @form("switch")
 def switch(tag, tags, arms):
-    """The last arm has no test: an enum has no other tags."""
+    """The last arm has no test: it is for all others. `tags` has a list for each arm."""
     lines = []
     for number, arm in enumerate(arms):
-        test = f"if ({tag} == {tags[number]}) {{" if number + 1 < len(arms) else "{"
-        lines += ([test] if number == 0 else [f"}} else {test}"]) + indented(arm)
+        test = "{" if number + 1 == len(arms) else f"if ({' || '.join(f'{tag} == {one}' for one in tags[number])}) {{"
+        if number + 1 < len(arms) or arm:
+            lines += ([test] if number == 0 else [f"}} else {test}"]) + indented(arm)
     return lines + ["}"]
 
 
 @form("switch, leaving")
-def switch_leaving(tag, tags, other):
-    return [f"if ({tag} != {tags[0]}) {{"] + indented(other) + ["}"]
+def switch_leaving(tag, wanted, other):
+    return [f"if ({tag} != {wanted}) {{"] + indented(other) + ["}"]
 
 
 @form("while")
@@ -374,9 +416,24 @@ def loop(body):
     return ["for (;;) {"] + indented(body) + ["}"]
 
 
+@form("for")
+def for_loop(first, test, step, body):
+    return [f"for ({first}; {test}; {step}) {{"] + indented(body) + ["}"]
+
+
+@form("step")
+def step(name, more):
+    return f"{name}++" if more == "1u" else f"{name} += {more}"
+
+
 @form("continue")
 def continue_loop():
     return ["continue;"]
+
+
+@form("break")
+def break_loop():
+    return ["break;"]
 
 
 @form("return a value")

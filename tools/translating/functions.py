@@ -1,16 +1,16 @@
-"""Every function of the C file by itself, against its MIR. No function of the crates has a precondition, so each may be called with any
-bytes and numbers: here with pools, damaged pools and other bytes, and with numbers at the edges of their widths and of what the pool has; and
-as it is called while the exported calls run. What it must answer, and what must stand in the memory that it was lent, machine.py says,
-which runs the MIR itself.
+"""Every function of the C file by itself, against its MIR. Almost none has a precondition, so each may be called with any bytes and numbers:
+here with pools, damaged pools and other bytes, and with numbers at the edges of their widths and of what the pool has; and as it is called
+while the exported calls run. Of a function that has one, or a method, which may, a case is left out in which it does what is not defined.
+What it must answer, and what must stand in the memory that it was lent, machine.py says, which runs the MIR itself.
 
 Three files come of it: a C program that includes pool.c and makes the calls, what it reads, and the lines that it must print."""
 
 import random
 import struct
 
-from machine import Block, Machine, TooLong
-from tree import BOOL, Int, Named, Ref, Slice, UNIT
-from writing import c_type, pointer_type
+from machine import Block, Machine, Slot, Stuck, TooLong
+from tree import Array, BOOL, Int, Named, Ref, Slice, UNIT
+from writing import c_type, declared, parts_of, pointer_type
 
 CASES = 100  # of each function with arguments by chance, five times as many where they are all numbers,
 SEEN = 60  # at most as it was called,
@@ -268,7 +268,12 @@ class Functions:
         """An argument of that type."""
         choose = self.random.choice
         if isinstance(ty, Slice):
-            return self.lent(ty.of.bits, self.numbers(ty.of.bits, pool))
+            return self.lent(ty.of.bits, pool if ty.of == Int(8) else self.numbers(ty.of.bits, pool))
+        if ty == UNIT:
+            return (), b""
+        if isinstance(ty, Ref) and not isinstance(ty.to, Array):
+            value, given = self.make(ty.to, pool)
+            return (Slot(value), ()) if isinstance(ty.to, Named) else (Block(ty.to.bits, [value]), 0), given
         if isinstance(ty, Ref):
             numbers = self.bank(pool) if ty.to.length == 32 else self.waits(pool, ty.to.length)
             return (Block(ty.to.of.bits, list(numbers)), 0), packed(ty.to.of.bits, numbers)
@@ -281,11 +286,10 @@ class Functions:
         if isinstance(ty, Int):
             number = choose([self.number_in(pool), self.number_in(pool), choose(EDGES + WIDE), self.random.getrandbits(ty.bits)]) % 2 ** ty.bits
             return number, packed(64, [number])
-        fields, variant = self.file.program.fields(ty.name), None
-        if fields is None:
-            variants = self.file.program.variants(ty.name)
-            variant = self.random.randrange(len(variants))
-            fields = variants[variant]
+        program, variant = self.file.program, None
+        if program.fields(ty.name) is None:
+            variant = self.random.randrange(len(program.variants(ty.name)))
+        fields = program.all_fields(ty.name, variant)
         names = self.file.members(ty.name) if variant is None else ()
         made = [self.level() if at < len(names) and names[at] in LEVELS else self.make(field, pool) for at, field in enumerate(fields)]
         tag = [] if variant is None else [variant]
@@ -325,11 +329,18 @@ class Functions:
         """The numbers that the C program prints of a value."""
         if ty == UNIT:
             return []
+        if isinstance(ty, Slice):
+            (block, offset), length = value
+            first = offset // (block.bits // 8)
+            return [length, *block.numbers[first:first + length]]
+        if isinstance(ty, Ref):
+            return self.flat(ty.to, self.machine.load(value, {"Int": getattr(ty.to, "bits", None)}))
         if not isinstance(ty, Named):
             return [value]
-        fields, rest, tag = self.file.program.fields(ty.name), value, []
-        if fields is None:
-            fields, rest, tag = self.file.program.variants(ty.name)[value[0]], value[1:], [value[0]]
+        fields, rest, tag = None, value, []
+        if self.file.program.fields(ty.name) is None:
+            rest, tag = value[1:], [value[0]]
+        fields = self.file.program.all_fields(ty.name, tag[0] if tag else None)
         return tag + [n for field, part in zip(fields, rest) for n in self.flat(field, part)]
 
     def watched(self):
@@ -338,6 +349,8 @@ class Functions:
         count = dict.fromkeys(self.paths, 0)
 
         def watch(name, args):
+            if name not in count:
+                return
             count[name] += 1
             place = count[name] - 1 if count[name] <= SEEN else self.random.randrange(count[name])
             if place < SEEN:
@@ -370,26 +383,62 @@ class Functions:
             (block, offset), length = value
             first = offset // (block.bits // 8)
             return self.lent(block.bits, block.numbers[first:first + length])
-        if isinstance(ty, Ref):
+        if isinstance(ty, Ref) and isinstance(ty.to, Array):
             return (Block(value[0].bits, list(value[0].numbers)), 0), packed(value[0].bits, value[0].numbers)
-        return value, packed(64, self.flat(ty, value))
+        return self.copied(ty, value), self.given_as(ty, value)
+
+    def copied(self, ty, value):
+        """A value whose memory is its own."""
+        if isinstance(ty, Slice):
+            return self.keep(ty, value)[0]
+        if isinstance(ty, Ref):
+            inner = self.copied(ty.to, self.machine.load(value, {"Int": getattr(ty.to, "bits", None)}))
+            return (Slot(inner), ()) if isinstance(ty.to, Named) else (Block(ty.to.bits, [inner]), 0)
+        if not isinstance(ty, Named):
+            return value
+        is_enum = self.file.program.fields(ty.name) is None
+        fields = self.file.program.all_fields(ty.name, value[0] if is_enum else None)
+        return (*value[:is_enum], *(self.copied(field, part) for field, part in zip(fields, value[is_enum:])))
+
+    def given_as(self, ty, value):
+        """What the C program reads for a value."""
+        if isinstance(ty, Slice):
+            return self.keep(ty, value)[1]
+        if isinstance(ty, Ref):
+            return self.given_as(ty.to, self.machine.load(value, {"Int": getattr(ty.to, "bits", None)}))
+        if not isinstance(ty, Named):
+            return packed(64, self.flat(ty, value))
+        is_enum = self.file.program.fields(ty.name) is None
+        fields = self.file.program.all_fields(ty.name, value[0] if is_enum else None)
+        return packed(64, value[:is_enum]) + b"".join(self.given_as(field, part) for field, part in zip(fields, value[is_enum:]))
 
     def case(self, number, path, made):
-        """What the C program reads for a call, and what it must print; nothing where the call takes too long."""
+        """What the C program reads for a call, and what it must print; nothing where the call takes too long, or is not defined."""
         result, params = self.file.program.signature(path)
         self.machine.turns = TURNS
         try:
             answer = self.machine.call(path, [value for value, _ in made])
         except TooLong:
             return []
+        except Stuck:
+            if not self.may_be_stuck(path):
+                raise
+            return []
         finally:
             self.machine.turns = None
         words = [self.file.names.functions[path], *(f"{n:x}" for n in self.flat(result, answer))]
         for ty, (value, _) in zip(params, made):
             if isinstance(ty, (Slice, Ref)) and ty.mutable:
-                block = value[0][0] if isinstance(ty, Slice) else value[0]
-                words += ["|", *(f"{n:x}" for n in block.numbers)]
+                held = value[0][0] if isinstance(ty, Slice) else value[0]
+                words += ["|", *(f"{n:x}" for n in (self.flat(ty.to, held.value) if isinstance(held, Slot) else held.numbers))]
         return [(packed(64, [number]) + b"".join(given for _, given in made), " ".join(words))]
+
+    def may_be_stuck(self, path):
+        """Whether a function has a precondition, or may have: a method has its trait's, and what is passed as a struct has that of its invariant."""
+        source = self.file.source(path)
+        params = self.file.program.signature(path)[1]
+        return source.plain or source.asks or path.split("::")[-2][:1].isupper() or \
+            any(isinstance(ty, Named) or isinstance(ty, Ref) and isinstance(ty.to, Named) for ty in params)
 
     def given(self, path):
         """The arguments of a function's calls: as it was called, by chance, and where it takes numbers alone, each of them at each edge."""
@@ -454,43 +503,62 @@ class Functions:
         fields = self.file.program.fields(path)
         if fields is not None:
             for ty, member in zip(fields, members):
-                read.append(f"    v.{member} = {self.read(ty)};")
+                read += [f"    {line}" for line in self.read_to(ty, f"v.{member}")]
                 show.append(f"    {self.show(ty, f'v.{member}')}")
+            show += ["    (void)v;"] * (not fields)
         else:
             read.append("    v.tag = (uint8_t)in();")
             show.append("    out(v.tag);")
             for number, (types, member) in enumerate(zip(self.file.program.variants(path), members)):
                 for at, ty in enumerate(types):
-                    part = f"v.as.{member}" + ("" if len(types) == 1 else f".f{at}")
-                    read.append(f"    if (v.tag == {number}) {part} = {self.read(ty)};")
+                    part = f"v.as.{member}" + ("" if parts_of(types) == 1 else f".f{at}")
+                    read += [f"    if (v.tag == {number}) {line}" for line in self.read_to(ty, part)]
                     show.append(f"    if (v.tag == {number}) {self.show(ty, part)}")
         return read + ["    return v;", "}", ""] + show + ["}", ""]
 
+    def read_to(self, ty, place):
+        """Statements that read a value into a place."""
+        if isinstance(ty, Slice):
+            return [f"{place}_len = (size_t)in();", f"{place} = in_{ty.of.bits}({place}_len);"]
+        return [f"{place} = {self.read(ty)};"]
+
     def read(self, ty):
+        if isinstance(ty, Ref):
+            return f"in_{ty.to.bits}(1)"
         return f"in_{self.file.names.type(ty.name)}()" if isinstance(ty, Named) else f"({c_type(ty, self.file.names)})in()"
 
     def show(self, ty, text):
+        if isinstance(ty, Slice):
+            return f"{{ out({text}_len); for (size_t i = 0; i < {text}_len; i++) out({text}[i]); }}"
+        if isinstance(ty, Ref):
+            return self.show(ty.to, f"(*{text})")
         return f"out_{self.file.names.type(ty.name)}({text});" if isinstance(ty, Named) else f"out((uint64_t){text});"
+
+    def pointer(self, ty):
+        return pointer_type(True, ty, self.file.names)
 
     def caller(self, number, path):
         result, params = self.file.program.signature(path)
         lines, args, after = [f"static void call{number}(void)", "{"], [], []
         for at, ty in enumerate(params):
             if isinstance(ty, Slice):
-                lines += [f"    size_t n{at} = (size_t)in();", f"    {pointer_type(True, ty.of)}a{at} = in_{ty.of.bits}(n{at});"]
+                lines += [f"    size_t n{at} = (size_t)in();", f"    {self.pointer(ty.of)}a{at} = in_{ty.of.bits}(n{at});"]
                 args += [f"a{at}", f"n{at}"]
-            elif isinstance(ty, Ref):
-                lines += [f"    size_t n{at} = {ty.to.length};", f"    {pointer_type(True, ty.to.of)}a{at} = in_{ty.to.of.bits}(n{at});"]
+            elif isinstance(ty, Ref) and isinstance(ty.to, Array):
+                lines += [f"    size_t n{at} = {ty.to.length};", f"    {self.pointer(ty.to.of)}a{at} = in_{ty.to.of.bits}(n{at});"]
                 args.append(f"a{at}")
-            else:
-                lines.append(f"    {c_type(ty, self.file.names)} a{at} = {self.read(ty)};")
-                args.append(f"a{at}")
-            if isinstance(ty, (Slice, Ref)):
+            elif ty != UNIT:
+                to = ty.to if isinstance(ty, Ref) else ty
+                lines.append(f"    {declared(to, f'a{at}', self.file.names)[0]} = {self.read(to)};")
+                args.append(f"&a{at}" if isinstance(ty, Ref) else f"a{at}")
+                if isinstance(ty, Ref) and ty.mutable:
+                    after += ['    printf(" |");', f"    {self.show(to, f'a{at}')}"]
+            if isinstance(ty, Slice) or isinstance(ty, Ref) and isinstance(ty.to, Array):
                 bits = (ty.of if isinstance(ty, Slice) else ty.to.of).bits
                 after += ([f"    out_{bits}(a{at}, n{at});"] if ty.mutable else []) + [f"    free(a{at});"]
         name = self.file.names.functions[path]
         call = f"{name}({', '.join(args)})"
         lines += [f'    printf("{name}");'] if result != UNIT else [f"    {call};", f'    printf("{name}");']
         if result != UNIT:
-            lines += [f"    {c_type(result, self.file.names)} r = {call};", f"    {self.show(result, 'r')}"]
+            lines += [f"    {declared(result, 'r', self.file.names)[0]} = {call};", f"    {self.show(result, 'r')}"]
         return lines + after + ["}", ""]

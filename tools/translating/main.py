@@ -11,12 +11,12 @@ import sys
 from crates import Crates
 from file import File
 from forms import write
-from mir import Program
+from program import Program
 from tree import Unknown
 
 
 def mir_of(root, crates):
-    return [os.path.join(root, f"target/mir/{crate}.json") for crate in crates.names]
+    return [os.path.join(root, f"target/mir/{crate}.json") for crate in ["core", *crates.names]]
 
 
 def written(root, fault=None):

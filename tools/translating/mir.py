@@ -9,17 +9,21 @@ A form that is not named here stops the translation: nothing is guessed. What ea
   with one less. So in `Block Loop` 0 is C's continue, and 1 is its break.
 - Integers are bits, and signs stand at the operations. A slice is a struct of a pointer and a length, and an enum a tag, then fields.
 - `Offset` counts bytes, whatever is pointed to.
+- `Method` is a call of a trait's method by its number, in an impl that is named or given. `NumOf` and `SizeOf` are numbers that a parameter
+  says. `Unreachable` is where no run comes, which is proved.
 """
 
 import json
+from dataclasses import dataclass
 
-from forms import COUNTS, KIT
-from tree import (Array, BOOL, Break, Call, Cases, Cast, Continue, Do, Field, Fn, Held, If, Int, Len, Load, Loop, Make, Named, Num, Offset,
-                  Op1, Op2, PTR, Part, Ref, Repeat, Return, Set, SetField, Slice, Start, Store, Tag, Truth, UNIT, Unknown, Var)
+from forms import COUNTS
+from tree import (Address, Array, BOOL, Block, Break, Call, Cases, Cast, Continue, Do, Field, Fn, Held, If, Int, Leave, Len, Load, Loop, Make,
+                  Named, Never, Num, Offset, Op1, Op2, PTR, Part, Ref, Repeat, Return, Set, SetField, Slice, Start, Store, Tag, Truth, UNIT, Unknown,
+                  Var, inside, root, spelled)
 
 OPS1 = {"Not", *COUNTS}
-OPS2 = {"Eq", "Ne", "And", "Or", "Shl"}
-SIGNED_OPS2 = {("Add", "Unsigned"), ("Sub", "Unsigned"), ("Sub", "Signed"), ("Mul", "Unsigned"), ("Div", "Unsigned"),
+OPS2 = {"Eq", "Ne", "And", "Or", "Shl", "WrapAdd", "WrapSub"}
+SIGNED_OPS2 = {("Add", "Unsigned"), ("Sub", "Unsigned"), ("Add", "Signed"), ("Sub", "Signed"), ("Mul", "Unsigned"), ("Div", "Unsigned"),
                ("Rem", "Unsigned"), ("Shr", "Unsigned"), ("Lt", "Unsigned"), ("Lt", "Signed"), ("Le", "Unsigned")}
 CASTS = {("Unsigned", "Unsigned", 8), ("Unsigned", "Unsigned", 32), ("Unsigned", "Unsigned", 64), ("Unsigned", "Signed", 32),
          ("Signed", "Unsigned", 32)}
@@ -39,109 +43,53 @@ def only(form, *names):
     return key, under
 
 
-class Program:
-    """The functions of all crates by their paths, and the types that they use."""
+@dataclass(frozen=True)
+class Given:
+    """What a function, a type or an impl is given: types or numbers for its parameters, and an impl for each trait that it asks of them."""
+    types: tuple = ()
+    impls: tuple = ()
 
-    def __init__(self, files):
-        self.raw, self.types, self.read = {}, {}, {}
-        for file in files:
-            with open(file) as text:
-                for name, fn in json.load(text):
-                    if name in self.raw:
-                        raise Unknown(f"two functions are called {name}")
-                    self.raw[name] = fn
-        for name, fn in self.raw.items():
-            for declared in fn["types"]:
-                shape = declared["shape"]
-                if self.types.setdefault(declared["name"], shape) != shape:
-                    raise Unknown(f"{declared['name']} has two shapes")
 
-    def has(self, name):
-        return name in self.raw or name in KIT
-
-    def fn(self, name):
-        if name not in self.read:
-            try:
-                self.read[name] = Reader(self, name, self.raw[name]).fn()
-            except Unknown as why:
-                raise Unknown(f"{name}: {why}")
-        return self.read[name]
-
-    def signature(self, name):
-        """The types of the result and of the parameters."""
-        if name in KIT:
-            return Int(32), [Int(32), Int(32)]
-        raw = self.raw[name]
-        types = [self.type(local["ty"]) for local in raw["locals"][:raw["params"] + 1]]
-        return types[0], types[1:]
-
-    def type(self, form):
-        key, under = only(form, "Unit", "Bool", "Ptr", "Int", "Ref", "Struct", "Array", "Named")
-        if key == "Unit":
-            return UNIT
-        if key == "Bool":
-            return BOOL
-        if key == "Ptr":
-            return PTR
-        if key == "Int":
-            if under not in (8, 32, 64):
-                raise Unknown(f"an integer of {under} bits")
-            return Int(under)
-        if key == "Ref":
-            return Ref(under[1] == "Mut", self.type(under[2]))
-        if key == "Array":
-            _, length = only(under[1], "Lit")
-            return Array(self.type(under[0]), length)
-        if key == "Named":
-            named, given = under
-            if given:
-                raise Unknown(f"{named['name']} with parameters")
-            return Named(named["name"])
-        if under[0] != "&[]":
-            raise Unknown(f"a struct without a declaration, {under[0]}")
-        pointer, length = (self.type(part) for part in under[1])
-        if not isinstance(pointer, Ref) or length != Int(64):
-            raise Unknown("a slice that is no pointer and length")
-        return Slice(pointer.mutable, pointer.to)
-
-    def fields(self, name):
-        """The types of a struct's fields; None where it is an enum."""
-        key, under = only(self.types[name], "Fields", "Variants")
-        return [self.type(t) for t in under] if key == "Fields" else None
-
-    def variants(self, name):
-        key, under = only(self.types[name], "Fields", "Variants")
-        return [[self.type(t) for t in fields] for fields in under] if key == "Variants" else None
+@dataclass(frozen=True)
+class Impl:
+    name: str
+    given: Given
 
 
 class Reader:
-    """One function's body."""
+    """One function's body, where it is given types and impls."""
 
-    def __init__(self, program, name, raw):
-        self.program, self.name, self.raw, self.at = program, name, raw, 0
-        self.types = []
-        for local in raw["locals"]:
-            ty = program.type(local["ty"])
+    def __init__(self, program, name, raw, given):
+        self.program, self.name, self.raw, self.around, self.at = program, name, raw, given, 0
+        self.types, self.slots, self.none_last, self.left = [], set(), set(), set()
+        for number, local in enumerate(raw["locals"]):
+            ty = self.type(local["ty"])
             home, _ = only(local["home"], "ValueLocal", "MemorySlot")
-            if (home == "MemorySlot") != isinstance(ty, Array):
+            if isinstance(ty, Array) and home != "MemorySlot" or home == "MemorySlot" and not isinstance(ty, (Array, Named, Int)) and ty != BOOL:
                 raise Unknown(f"a local of another home than its type asks for: {json.dumps(local)}")
+            if home == "MemorySlot":
+                self.slots.add(number)
+            if program.is_none_last(local["ty"]):
+                self.none_last.add(number)
             self.types.append(ty)
 
+    def type(self, form):
+        return self.program.type(form, self.around)
+
     def fn(self):
-        if self.raw["generics"]["types"] or self.raw["generics"]["method_of"] is not None:
-            raise Unknown("a function with type parameters, or a method of a trait")
         body = self.body([])
         if self.at != len(self.raw["body"]):
             raise Unknown("words are left after the body")
-        return Fn(self.name, self.raw["params"], self.types, body)
+        return Fn(self.name, self.raw["params"], self.types, body, self.slots)
 
     # ---- statements
 
     def body(self, around):
-        """A list of statements; `around` has the blocks and loops outside, the innermost last."""
+        """A list of statements; `around` has the blocks and loops outside, the innermost last: a block's number, or "Loop" with "End" around it
+        where a block has nothing else."""
         form = self.raw["body"][self.at]
         self.at += 1
-        key, under = only(form, "Seq", "Skip", "Return", "Block", "Loop", "Assign", "Call", "If", "Switch", "Exit")
+        key, under = only(form, "Seq", "Skip", "Return", "Block", "Loop", "Assign", "Call", "If", "Switch", "Exit", "LendStatic", "Unreachable")
         if key == "Seq":
             first = self.body(around)
             return first + self.body(around)
@@ -149,6 +97,8 @@ class Reader:
             return []
         if key == "Return":
             return [Return(None)]
+        if key == "Unreachable":
+            return [Never()]
         if key == "Block":
             return self.block(around)
         if key == "Loop":
@@ -160,67 +110,146 @@ class Reader:
         if key == "Switch":
             return [self.switch(under, around)]
         if key == "Call":
-            return [self.call(under)]
+            return self.call(under)
+        if key == "LendStatic":
+            return self.lend(under)
         return [self.assign(under)]
 
     def block(self, around):
-        """A block is known only around a loop, and its loop's body is all that it has."""
-        key, _ = only(self.raw["body"][self.at], "Loop")
-        self.at += 1
-        return [Loop(self.body(around + ["Block", key]))]
+        if self.raw["body"][self.at] == "Loop":
+            self.at += 1
+            return [Loop(self.body(around + ["End", "Loop"]))]
+        number = self.at
+        body = self.body(around + [number])
+        return [Block(number, body)] if number in self.left else body
 
     def exit(self, levels, around):
-        if around[-2:] != ["Block", "Loop"] or levels not in (0, 1):
+        if levels >= len(around):
             raise Unknown(f"an exit of {levels} from {around}")
-        return Continue() if levels == 0 else Break()
+        target, inside = around[-1 - levels], around[len(around) - levels:]
+        if target == "Loop" and "Loop" not in inside:
+            return Continue()
+        if target == "End" and inside.count("Loop") == 1:
+            return Break()
+        if isinstance(target, int) and "Loop" not in inside:
+            self.left.add(target)
+            return Leave(target)
+        raise Unknown(f"an exit of {levels} from {around}")
 
     def switch(self, under, around):
+        """Arms for the variants of an enum, or for numbers. The last one is for all others."""
         operand, keys, default = under
-        tag = self.operand(operand)
-        if not isinstance(tag, Tag):
-            raise Unknown("a switch on something else than an enum's tag")
-        count = len(self.program.variants(tag.of.ty.name))
-        if default or [k for arm in keys for k in arm] != list(range(count)) or any(len(arm) != 1 for arm in keys[:-1]):
-            raise Unknown("a switch that has not one arm for each variant, in order, and the last one for all others")
-        return Cases(tag.of, [self.body(around) for _ in keys])
+        value = self.operand(operand)
+        if isinstance(value, Tag):
+            value, count = value.of, len(self.program.variants(value.of.ty.name))
+            keys = [[1 - k if self.is_flipped(value) else k for k in arm] for arm in keys]
+            if default:
+                keys = keys + [[k for k in range(count) if not any(k in arm for arm in keys)]]
+            if sorted(k for arm in keys for k in arm) != list(range(count)) or not all(keys):
+                raise Unknown("a switch that has not one arm for each variant")
+        elif not isinstance(value.ty, Int) or not default:
+            raise Unknown("a switch on something else than an enum's tag, or on a number without an arm for all others")
+        else:
+            keys = keys + [[]]
+        return Cases(value, keys, [self.body(around) for _ in keys])
 
     def call(self, under):
         callee, operands, place = under
-        _, (name, given) = only(callee, "Fn")
-        if given["types"] or given["dicts"]:
-            raise Unknown(f"a call of {name} with type parameters")
-        args = [self.operand(o) for o in operands]
-        if not self.program.has(name):
-            raise Unknown(f"a call of {name}, which no crate has")
+        args, to = [self.operand(o) for o in operands], self.place(place)
+        key, what = only(callee, "Fn", "Method")
+        if key == "Fn":
+            name, given = what[0], self.program.given(what[1], self.around)
+            tried = self.tried(name, given, args, to.ty)
+            if tried:
+                return self.put(to, tried)
+            if name == "core::slice::edits::slice+T::fill":
+                return self.fill(*args)
+            if name == "core::assertions::unreachable":
+                return [Never()]
+            name = self.program.instance(name, given)
+        else:
+            name = self.program.method(self.program.impl(what[0], self.around), what[1], self.program.given(what[2], self.around))
+        return self.put(to, self.called(name, args))
+
+    def called(self, name, args):
+        """A call, or what it gives where no source has the function; () where it does nothing."""
         result, params = self.program.signature(name)
         if [self.passed(a.ty) for a in args] != [self.passed(p) for p in params]:
             raise Unknown(f"a call of {name} with other types than its parameters'")
-        made, to = Call(result, name, args), self.place(place)
-        if to.ty != result:
-            raise Unknown(f"the result of {name} goes to a place of another type")
-        if isinstance(to, Field) and isinstance(to.of, Var):
-            return SetField(to, made)
-        if not isinstance(to, Var):
-            raise Unknown(f"the result of {name} goes to something else than a local or a field of one")
-        return Do(made) if result == UNIT else Set(to.local, made)
+        value = self.program.value(name, args)
+        return Call(result, name, args) if value is None else value
+
+    def tried(self, name, given, args, result):
+        """What `?` calls. A value is its own ControlFlow, and an error its own residual; on the way out the error is converted."""
+        if name in ("core::result::ResultTry::branch", "core::option::OptionTry::branch"):
+            return args[0]
+        if name == "core::option::OptionFromResidualNoValue::from_residual":
+            return Make(result, 0, [])
+        if name == "core::result::ResultFromResidualErrResidual::from_residual":
+            convert, = given.impls
+            error = args if convert.name == "core::convert::AnyFrom" else \
+                [self.called(self.program.method(convert, 0, Given()), args)]
+            return Make(result, 1, error)
+        return None
+
+    def fill(self, slice_, value):
+        """Each element becomes the value. The kit's function copies values of any type, which may fail; a number's copy cannot."""
+        count, size, i = Int(64), self.size(value.ty), Var(Int(64), len(self.types))
+        self.types.append(count)
+        pointer = Start(Ref(True, value.ty), slice_)
+        element = Load(value.ty, Offset(pointer.ty, pointer, i if size == 1 else Op2(count, "Mul", "Unsigned", i, Num(count, size))))
+        return [Set(i.local, Num(count, 0)),
+                Loop([If(Op2(BOOL, "Lt", "Unsigned", i, Len(count, slice_)), [], [Break()]), Store(element, value),
+                      Set(i.local, Op2(count, "Add", "Unsigned", i, Num(count, 1)))])]
+
+    def put(self, to, value):
+        if value == ():
+            return []
+        if to.ty != value.ty:
+            raise Unknown(f"a result goes to a place of another type: {to.ty}, and not {value.ty}")
+        if isinstance(to, Var):
+            return [Do(value) if value.ty == UNIT else Set(to.local, value)]
+        return [self.store(to, value)]
 
     @staticmethod
     def passed(ty):
         """A reference's mutability is C's const, which an argument may gain."""
         return Slice(False, ty.of) if isinstance(ty, Slice) else Ref(False, ty.to) if isinstance(ty, Ref) else ty
 
+    def lend(self, under):
+        """A reference to a constant: C has it in a local."""
+        place, form, constant = under
+        ty, to = self.type(form), self.place(place)
+        slot = Var(ty, len(self.types))
+        if not isinstance(ty, Named) or not isinstance(to, Var):
+            raise Unknown(f"a constant of type {spelled(ty)} that is lent")
+        self.types.append(ty)
+        self.slots.add(slot.local)
+        return [Set(slot.local, self.constant(constant, ty)), Set(to.local, Address(to.ty, slot))]
+
+    def constant(self, form, ty):
+        if not isinstance(ty, Named):
+            return self.operand(form)
+        _, parts = only(form, "Parts")
+        variant, parts = (None, parts) if self.program.fields(ty.name) is not None else (self.operand(parts[0]), parts[1:])
+        types = self.program.all_fields(ty.name, variant and variant.value)
+        return self.aggregate(([variant] if variant else []) + [self.constant(p, t) for p, t in zip(parts, types)], ty)
+
     def assign(self, under):
         place, rvalue = under
-        if place["steps"]:
-            target = self.place(place)
-            if isinstance(target, Field) and isinstance(target.of, Var):
-                return SetField(target, self.rvalue(rvalue, target.ty))
-            # else through a pointer
-            if not isinstance(target, Load):
-                raise Unknown("a store to something else than a local, a field of one or what a pointer leads to")
-            value = self.rvalue(rvalue, target.ty)
-            return Store(target, value)
-        return Set(place["local"], self.rvalue(rvalue, self.types[place["local"]]))
+        if not place["steps"]:
+            return Set(place["local"], self.rvalue(rvalue, self.types[place["local"]]))
+        target = self.place(place)
+        return self.store(target, self.rvalue(rvalue, target.ty))
+
+    @staticmethod
+    def store(to, value):
+        """To a field of a local, or through a pointer."""
+        if isinstance(to, Field) and isinstance(root(to), Var):
+            return SetField(to, value)
+        if isinstance(to, (Load, Field)) and isinstance(root(to), Load):
+            return Store(to, value)
+        raise Unknown("a store to something else than a local, a field of one or what a pointer leads to")
 
     # ---- values
 
@@ -235,7 +264,7 @@ class Reader:
         elif key == "AddrOf":
             value = self.address(under, wanted)
         elif key == "Repeat":
-            _, length = only(under[1], "Lit")
+            length = self.program.number(under[1], self.around)
             value = Repeat(wanted, self.operand(under[0]), length)
             if wanted != Array(value.value.ty, length):
                 raise Unknown("an array of another length or element than its local's")
@@ -243,14 +272,20 @@ class Reader:
             value = self.aggregate([self.operand(o) for o in under], wanted)
         if isinstance(wanted, Ref) or wanted == PTR:
             return value
+        if any(isinstance(v, Tag) and self.is_flipped(v.of) for v in inside(value)):
+            raise Unknown("the tag of a ControlFlow")
         if value.ty != wanted:
             raise Unknown(f"a value of type {value.ty} where {wanted} is wanted")
         return value
 
     def operand(self, form):
-        key, under = only(form, "Copy", "Int", "True", "False", "Unit")
+        key, under = only(form, "Copy", "Int", "True", "False", "Unit", "NumOf", "SizeOf")
         if key == "Copy":
             return self.place(under)
+        if key == "NumOf":
+            return Num(Int(under[0]), self.program.number(under[1], self.around))
+        if key == "SizeOf":
+            return Num(Int(64), self.size(self.type(under)))
         if key == "Int":
             if under["width"] not in (8, 32, 64) or not 0 <= under["value"] < 1 << under["width"]:
                 raise Unknown(f"a number that is none of its width: {under}")
@@ -259,6 +294,12 @@ class Reader:
             return Var(UNIT, None)
         return Truth(BOOL, key == "True")
 
+    @staticmethod
+    def size(ty):
+        if not isinstance(ty, Int):
+            raise Unknown(f"the size of {spelled(ty)}")
+        return ty.bits // 8
+
     def place(self, place):
         value, variant = Var(self.types[place["local"]], place["local"]), None
         for step in place["steps"]:
@@ -266,38 +307,49 @@ class Reader:
             if key == "Variant":
                 if variant is not None or not isinstance(value.ty, Named) or self.program.variants(value.ty.name) is None:
                     raise Unknown("a variant of something that is no enum")
-                variant = under
+                variant = 1 - under if self.is_flipped(value) else under
             elif key == "Field":
                 value, variant = self.field(value, variant, under), None
             else:
-                to = self.program.type(under)
-                if variant is not None or not (isinstance(value.ty, Ref) or value.ty == PTR) or not isinstance(to, (Int, Array)):
-                    raise Unknown("a pointer that is followed to no number")
-                value = Load(to, value)
+                to = self.type(under)
+                if variant is not None or not (isinstance(value.ty, Ref) or value.ty == PTR):
+                    raise Unknown("something is followed that is no pointer")
+                value = Var(UNIT, None) if to == UNIT else Load(to, value)
         if variant is not None:
             raise Unknown("a variant without a field")
         return value
+
+    def is_flipped(self, value):
+        return isinstance(value, Var) and value.local in self.none_last
 
     def field(self, value, variant, number):
         if isinstance(value.ty, Slice):
             return Start(Ref(value.ty.mutable, value.ty.of), value) if number == 0 else Len(Int(64), value)
         if not isinstance(value.ty, Named):
             raise Unknown("a field of something that has none")
-        name = value.ty.name
-        if variant is None:
-            return Field(self.program.fields(name)[number], value, number)
-        if number == 0:
+        if variant is not None and number == 0:
             return Tag(Int(8), value)
-        return Held(self.program.variants(name)[variant][number - 1], value, variant, number - 1)
+        types = self.program.all_fields(value.ty.name, variant)
+        number -= variant is not None
+        if self.is_flipped(value) and number == len(types):
+            return Var(UNIT, None)  # what a ControlFlow breaks with, where it stands for an Option
+        if number >= len(types):
+            raise Unknown(f"a field that {value.ty.name} has not")
+        if types[number] == UNIT:
+            return Var(UNIT, None)
+        at = number - types[:number].count(UNIT)
+        return Field(types[number], value, at) if variant is None else Held(types[number], value, variant, at)
 
     def address(self, place, wanted):
-        """A reference is made anew from a slice's, from one to an array, or from an array that is a local."""
+        """A reference is made anew from one, or to a local in memory, or to a field of either."""
         value = self.place(place)
         if isinstance(value, Load):
             return value.pointer
-        if isinstance(value, Var) and isinstance(value.ty, Array):
-            return Start(Ref(True, value.ty.of), value)
-        raise Unknown("an address of something else than an array or what a pointer leads to")
+        if isinstance(root(value), Var) and root(value).local in self.slots or isinstance(root(value), Load):
+            return Start(Ref(True, value.ty.of), value) if isinstance(value.ty, Array) else Address(wanted, value)
+        if value == Var(UNIT, None):
+            return Address(wanted, value)
+        raise Unknown("an address of something else than a local in memory, what a pointer leads to, or a field of it")
 
     def op1(self, op, operand):
         value = self.operand(operand)
@@ -329,9 +381,9 @@ class Reader:
             (name, sign), = op.items()
             if (name, sign) not in SIGNED_OPS2:
                 raise Unknown(f"the operation {name} {sign}")
-        if a.ty != b.ty or not isinstance(a.ty, Int):
+        if a.ty != b.ty or not (isinstance(a.ty, Int) or a.ty == BOOL and name in ("Eq", "Ne")):
             raise Unknown(f"{name} of {a.ty} and {b.ty}")
-        if a.ty == Int(8) and name not in ("Eq", "Ne"):
+        if a.ty == Int(8) and name not in ("Eq", "Ne", "Lt", "Le", "And", "Or"):
             raise Unknown(f"{name} of 8 bits")
         if sign == "Signed" and a.ty != Int(32):
             raise Unknown(f"{name} of {a.ty}, signed")
@@ -350,6 +402,7 @@ class Reader:
             if not isinstance(tag, Num) or tag.ty != Int(8) or tag.value >= len(variants):
                 raise Unknown("an enum whose tag is no number of a variant")
             variant, fields = tag.value, variants[tag.value]
+        values = [v for v in values if v.ty != UNIT]
         if [v.ty for v in values] != fields:
             raise Unknown(f"{wanted.name} of other fields than its own")
         return Make(wanted, variant, values)

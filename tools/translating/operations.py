@@ -2,7 +2,7 @@
 what the kit's logic says (its file Mir/Val.antt), computed here. Some of it no pool can show: a test whose two branches do the same, say.
 Only operands for which an operation is defined are asked about; the proofs see to it that there are no others."""
 
-from forms import COUNTS, Text, WIDTH
+from forms import COUNTS, Text, WIDTH, indented
 
 
 def edges(bits):
@@ -32,6 +32,10 @@ def fits_signed(bits, value):
 OF_TWO = [
     ("Add Unsigned", (32, 64), lambda w, a, b: fits(w, a + b)),
     ("Sub Unsigned", (32, 64), lambda w, a, b: fits(w, a - b)),
+    ("Mul Unsigned", (32, 64), lambda w, a, b: fits(w, a * b)),
+    ("Add Signed", (32,), lambda w, a, b: fits_signed(w, signed(w, a) + signed(w, b))),
+    ("WrapAdd", (32, 64), lambda w, a, b: (a + b) % 2 ** w),
+    ("WrapSub", (32, 64), lambda w, a, b: (a - b) % 2 ** w),
     ("Sub Signed", (32,), lambda w, a, b: fits_signed(w, signed(w, a) - signed(w, b))),
     ("Rem Unsigned", (32, 64), lambda w, a, b: a % b if b else None),
     ("And", (32, 64), lambda w, a, b: a & b),
@@ -48,7 +52,6 @@ BY_POWER = [
     ("Mul Unsigned, by 2^k", lambda w, a, k: fits(w, a << k)),
     ("Div Unsigned, by 2^k", lambda w, a, k: a >> k),
 ]
-WRAPPING = [("wrapping_add_u32", lambda a, b: (a + b) % 2 ** 32), ("wrapping_sub_u32", lambda a, b: (a - b) % 2 ** 32)]
 # from, to
 CASTS = [
     ("Cast Unsigned Unsigned", 64, 32, lambda a: fits(32, a)),
@@ -68,9 +71,13 @@ class Operations:
 
     def ask(self, name, result, params, text, cases):
         """A function of the text, and a call of it for each case: its operands, then what it must answer."""
+        self.ask_body(name, result, params, [f"return ({WIDTH[result]})({text});"], cases)
+
+    def ask_body(self, name, result, params, lines, cases):
         function = f"op{len(self.functions)}"
         declared = ", ".join(f"{WIDTH[bits]} {param}" for param, bits in params)
-        self.functions.append(f"// {name}\nstatic {WIDTH[result]} {function}({declared})\n{{\n    return ({WIDTH[result]})({text});\n}}\n")
+        body = "\n".join(indented(lines))
+        self.functions.append(f"// {name}\nstatic {WIDTH[result]} {function}({declared})\n{{\n{body}\n}}\n")
         types = ", ".join(WIDTH[bits] for _, bits in params)
         rows = ", ".join("{" + ", ".join(f"{hex(n)}u" for n in case) + "}" for case in cases)
         of = ", ".join(f"({WIDTH[bits]})t[i][{at}]" for at, (_, bits) in enumerate(params))
@@ -90,15 +97,19 @@ class Operations:
                     if k < w:
                         cases = [(x, meaning(w, x, k)) for x in edges(w) if meaning(w, x, k) is not None]
                         self.ask(name, w, [("a", w)], self.form(name, a, k), cases)
-        for name, meaning in WRAPPING:
-            cases = [(x, y, meaning(x, y)) for x in edges(32) for y in edges(32)]
-            self.ask(name, 32, [("a", 32), ("b", 32)], self.form(name, a, b), cases)
+        for name, meaning in (("Both", min), ("Either", max)):
+            cases = [(x, y, meaning(x, y)) for x in (0, 1) for y in (0, 1)]
+            self.ask(name, 8, [("a", 8), ("b", 8)], self.form(name, a, b), cases)
         for name, width, to, meaning in CASTS:
             self.ask(name, to, [("a", width)], self.form(name, to, a), [(x, meaning(x)) for x in edges(width) if meaning(x) is not None])
         self.ask("Not", 32, [("a", 32)], self.form("Not", 32, a), [(x, 2 ** 32 - 1 - x) for x in edges(32)])
         self.ask("Not of a truth", 8, [("a", 8)], self.form("Not of a truth", a), [(0, 1), (1, 0)])
         self.ask("LeadingZeros", 32, [("a", 32)], self.form("LeadingZeros", a), [(x, 32 - x.bit_length()) for x in self.every_bit()])
         self.ask("TrailingZeros", 32, [("a", 32)], self.form("TrailingZeros", a), [(x, low_zeros(32, x)) for x in self.every_low_bit()])
+        self.ask("is of a variant", 8, [("a", 8)], self.form("is of a variant", a, "2u"), [(x, int(x == 2)) for x in range(4)])
+        arms = [[f"return {n}u;"] for n in range(3)]
+        switch = self.form("switch", a, [["1u"], ["2u", "4u"], []], arms)
+        self.ask_body("switch", 8, [("a", 8)], switch, [(x, {1: 0, 2: 1, 4: 1}.get(x, 2)) for x in range(6)])
         self.ask("true", 8, [("a", 8)], Text.of(f"a == {self.form('true')}", 9), [(1, 1), (0, 0)])
         self.ask("false", 8, [("a", 8)], Text.of(f"a == {self.form('false')}", 9), [(0, 1), (1, 0)])
         return "\n".join([

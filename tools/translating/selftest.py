@@ -9,10 +9,11 @@ import tempfile
 from crates import Crates
 from file import File
 from forms import COUNTS
-from mir import Program
+from program import Program
 from shape import Shaper
 from source import Sources
-from tree import Call, Do, Fn, Int, Load, Num, Offset, Op2, Ref, Return, Set, Slice, Start, Store, UNIT, Unknown, Var
+from tree import (Address, BOOL, Block, Break, Call, Cases, Continue, Do, Fn, For, If, Int, Leave, Load, Loop, Named, Never, Num, Offset, Op2, Ref,
+                  Return, Set, Slice, Start, Store, Truth, UNIT, Unknown, Unless, Var, While)
 
 root, = sys.argv[1:]
 passed = failed = 0
@@ -28,7 +29,7 @@ def expect(holds, what):
 # ---- what is not known
 
 CRATES = Crates(root, "board")
-FILES = [os.path.join(root, f"target/mir/{crate}.json") for crate in CRATES.names]
+FILES = [os.path.join(root, f"target/mir/{crate}.json") for crate in ["core", *CRATES.names]]
 PROGRAM = Program(FILES)
 
 
@@ -97,47 +98,53 @@ FIND = "bins::chain::along"
 stops("a word of the body", FIND, word("Skip", "Trap"), "'Trap'")
 stops("an exit of two loops", FIND, word({"Exit": 1}, {"Exit": 2}), "an exit of 2")
 stops("a loop without a block", FIND, word("Block", []), "a loop that is not the whole of a block")
-stops("a block without a loop", "bins::chain::linked", word("Seq", ["Block", "Seq"]), "'Seq'")
+stops("a block that is left from inside a loop", FIND, lambda raw: word("Block", ["Block", "Block"])(raw) or word({"Exit": 1}, {"Exit": 2})(raw),
+      "an exit of 2")
 stops("a call by a pointer", FIND, rename("Call", "CallV"), "'CallV'")
-stops("a signed sum", "header::zeros", operation({"Add": "Unsigned"}, {"Add": "Signed"}), "Add Signed")
-stops("an operation of two", "heads::head::together", operation("Or", "Xor"), "'Xor'")
+stops("a signed sum", "header::zeros", operation({"Add": "Unsigned"}, {"Mul": "Signed"}), "Mul Signed")
+stops("an operation of two", "heads::head::U32FromHead::from", operation("Or", "Xor"), "'Xor'")
 stops("an operation of one", "classes::class_of", deep(lambda f: isinstance(f, list) and f[:1] == ["LeadingZeros"],
                                                      lambda f: f.__setitem__(0, "CountOnes")), "'CountOnes'")
 for count in COUNTS:
     stops(f"{count} of a truth", "classes::class_of", deep(lambda f: isinstance(f, list) and f[:1] == ["LeadingZeros"],
                                                          lambda f: f.__setitem__(slice(0, 2), [count, "True"])), f"{count} of ")
-stops("a product that is no shift", "classes::class_of", deep(lambda f: f == {"Int": {"width": 32, "value": 4}},
-                                                            lambda f: f["Int"].update(value=5)), "Mul Unsigned")
-stops("a cast to 16 bits", "words::put32", deep(key("Cast"), lambda f: f.update(Cast=["Unsigned", "Unsigned", 16])), "the cast")
-stops("a cast that changes width and sign", "words::wide", deep(key("Cast"), lambda f: f.update(Cast=["Unsigned", "Signed", 32])), "the cast")
+stops("a cast to 16 bits", "words::word::U32Word::write", deep(key("Cast"), lambda f: f.update(Cast=["Unsigned", "Unsigned", 16])), "the cast")
+stops("a cast that changes width and sign", "words::word::U32Word::read", deep(key("Cast"), lambda f: f.update(Cast=["Unsigned", "Signed", 32])), "the cast")
 stops("a number of 16 bits", FIND, deep(key("Int"), lambda f: f["Int"].update(width=16)), "a number that is none of its width")
 stops("operands of two widths", FIND, deep(lambda f: f == {"Int": {"width": 32, "value": 0}}, lambda f: f["Int"].update(width=64)), "is wanted")
 stops("a type", FIND, local(9, ty={"Float": 32}), "'Float'")
 stops("an integer of 128 bits", FIND, local(9, ty={"Int": 128}), "an integer of 128 bits")
-stops("a number in memory", FIND, local(9, home="MemorySlot"), "a local of another home")
+stops("a pointer in memory", FIND, local(9, home="MemorySlot", ty="Ptr"), "a local of another home")
+stops("an array that is in no memory", FIND, local(9, ty={"Array": [{"Int": 32}, {"Lit": 3}]}), "a local of another home")
 stops("a struct without a declaration", FIND, local(9, ty={"Struct": ["S", []]}), "a struct without a declaration")
-stops("a call of a trait's method", FIND, rename("Fn", "Method"), "'Method'")
+METHOD = {"Method": [{"Impl": ["gone", [], []]}, 0, {"types": [], "dicts": []}]}
+stops("a method of no impl", FIND, deep(key("Fn"), lambda f: (f.clear(), f.update(METHOD))), "method 0 of gone")
+stops("a method of an impl that is not given", FIND, deep(key("Fn"), lambda f: (f.clear(), f.update(
+    {"Method": [{"Given": 0}, 0, {"types": [], "dicts": []}]}))), "parameter 0, which is not given")
+stops("a method of something else than an impl", FIND, deep(key("Fn"), lambda f: (f.clear(), f.update(
+    {"Method": [{"Super": 0}, 0, {"types": [], "dicts": []}]}))), "'Super'")
 stops("a call of nothing", FIND, calls(None, "bins::chain::gone"), "which no crate has")
-stops("a call with other types", FIND, calls(None, "words::get32"), "other types")
-stops("a call with a type parameter", FIND, deep(key("Fn"), lambda f: f["Fn"][1].update(types=[{"Int": 32}])), "with type parameters")
-stops("a call with a trait's functions", FIND, deep(key("Fn"), lambda f: f["Fn"][1].update(dicts=[{}])), "with type parameters")
-stops("a function with a type parameter", FIND, lambda raw: raw["generics"].update(types=[{}]), "a function with type parameters")
-stops("a method of a trait", FIND, lambda raw: raw["generics"].update(method_of={}), "a method of a trait")
-stops("a type with a parameter", "bank::kinds::kind_of", lambda raw: raw["locals"][0]["ty"]["Named"].__setitem__(1, [{"Int": 32}]), "with parameters")
+stops("a call with other types", FIND, calls(None, "words::word::put_field"), "other types")
+stops("a call with a type parameter", FIND, deep(key("Fn"), lambda f: f["Fn"][1].update(types=[{"Int": 32}])), "other parameters than its own")
+stops("a call with an impl too many", FIND, deep(key("Fn"), lambda f: f["Fn"][1].update(dicts=[{"Impl": ["gone", [], []]}])),
+      "other parameters than its own")
+stops("a function that is not given its parameter", FIND, lambda raw: raw["generics"].update(types=[{}]), "other parameters than its own")
+stops("a parameter that is not given", FIND, local(9, ty={"Param": 0}), "parameter 0, which is not given")
+stops("a type with a parameter", "walk::looking_up::look_up", lambda raw: raw["locals"][0]["ty"]["Named"].__setitem__(1, [{"Int": 32}]), "another type")
 stops("a function that calls itself", "bins::entering::enter", calls("bins::entering::enter_bin", "bins::entering::enter"), "calls itself")
-stops("a switch with a default", "board::halves::of", deep(key("Switch"), lambda f: f["Switch"].__setitem__(2, True)),
+stops("a switch with an arm too many", "board::halves::of", deep(key("Switch"), lambda f: f["Switch"].__setitem__(2, True)),
       "a switch that has not one arm")
-stops("a switch with its arms in another order", "board::halves::of",
-      deep(key("Switch"), lambda f: f["Switch"].__setitem__(1, [[1], [0]])), "a switch that has not one arm")
-stops("a switch on a number", "board::halves::of",
-      deep(key("Switch"), lambda f: f["Switch"].__setitem__(0, {"Copy": {"local": 2, "steps": []}})), "something else than an enum's tag")
+stops("a switch with two arms for one variant", "board::halves::of",
+      deep(key("Switch"), lambda f: f["Switch"].__setitem__(1, [[1], [1]])), "a switch that has not one arm")
+stops("a switch on a number with no arm for all others", "board::halves::of",
+      deep(key("Switch"), lambda f: f["Switch"].__setitem__(0, {"Int": {"width": 32, "value": 2}})), "something else than an enum's tag")
 stops("an offset that is no index", "marks::put_in",
       deep(lambda f: f == {"Int": {"width": 64, "value": 8}}, lambda f: f["Int"].update(value=4)), "no index of elements")
-stops("a store to a part of a variant", "bank::kinds::kind_of",
-      deep(key("Assign"), lambda f: f["Assign"].__setitem__(0, {"local": 0, "steps": [{"Variant": 0}, {"Field": 1}]})), "a store to something else")
-stops("an array whose length is a parameter", "bins::leaving::leave_both", deep(key("Repeat"), lambda f: f["Repeat"].__setitem__(1, {"Param": 0})),
-      "'Param'")
-stops("a tag that no variant has", "bank::kinds::kind_of",
+stops("a field that a variant has not", "walk::looking_up::found_at",
+      deep(key("Assign"), lambda f: f["Assign"].__setitem__(0, {"local": 0, "steps": [{"Variant": 0}, {"Field": 9}]})), "a field that")
+stops("an array whose length is not given", "bins::leaving::leave_both", deep(key("Repeat"), lambda f: f["Repeat"].__setitem__(1, {"Param": 0})),
+      "parameter 0, which is not given")
+stops("a tag that no variant has", "walk::looking_up::found_at",
       deep(key("Aggregate"), lambda f: f["Aggregate"].__setitem__(0, {"Int": {"width": 8, "value": 9}})), "no number of a variant")
 stops("a struct with too few fields", FIND, deep(key("Aggregate"), lambda f: f["Aggregate"].pop()), "other fields than its own")
 stops("words that are left over", FIND, lambda raw: raw["body"].append("Skip"), "words are left")
@@ -179,20 +186,20 @@ for name, text in texts.items():
 
 # ---- what is moved
 
-POOL, BYTE, WORD = Slice(True, Int(8)), Ref(True, Int(8)), Int(32)
+POOL, BYTE, WORD, KIND = Slice(True, Int(8)), Ref(True, Int(8)), Int(32), Named("K")
 
 
 class Callees:
     """A function that reads, one that writes, and one that does neither."""
     @staticmethod
     def signature(name):
-        return WORD, {"reads": [Slice(False, Int(8))], "writes": [POOL], "neither": [WORD]}[name]
+        return WORD, {"reads": [Slice(False, Int(8))], "writes": [POOL], "neither": [WORD], "changes": [Ref(True, WORD)]}[name]
 
 
-def shaped(*body):
-    """Parameters: 1, the pool, and 2, a number. 3 is named by the source; from 4 on they are steps of a sum."""
-    fn = Fn("f", 2, [UNIT, POOL, WORD, WORD, WORD, WORD, WORD], copy.deepcopy([*body, Return(None)]))
-    return Shaper(Callees, fn, {1, 2, 3}).shape()
+def shaped(*body, slots=(), counters=(), plain=False):
+    """Parameters: 1, the pool, and 2, a number. 3 is named by the source; from 4 on they are steps of a sum; 7 is an enum, 8 a truth."""
+    fn = Fn("f", 2, [UNIT, POOL, WORD, WORD, WORD, WORD, WORD, KIND, BOOL], copy.deepcopy([*body, Return(None)]), set(slots))
+    return Shaper(Callees, fn, {1, 2, 3}, plain, set(counters)).shape()
 
 
 pool, x, kept, t, u = Var(POOL, 1), Var(WORD, 2), Var(WORD, 3), Var(WORD, 4), Var(WORD, 5)
@@ -224,6 +231,64 @@ expect(len(shaped(Set(4, wrote), Set(5, read), Do(add(t, u)))) == 2, "and nothin
 expect(len(shaped(Set(4, wrote), store, use)) == 3, "nor further down")
 expect(len(shaped(Set(4, read), Do(add(t, t)))) == 2, "what is used twice is computed once")
 expect(len(shaped(Set(3, read), Do(calling("neither", kept)))) == 2, "what the source names is kept")
+
+local, changes = Var(WORD, 6), Do(calling("changes", Address(Ref(True, WORD), Var(WORD, 6))))
+expect(len(shaped(Set(6, x), Set(4, local), changes, use, slots={6})) == 4, "a local in memory is not read after a call that may change it")
+expect(len(shaped(Set(6, x), Set(4, local), Set(6, kept), use, slots={6})) == 4, "nor after it is set")
+expect(len(shaped(Set(6, x), Set(4, at(0)), Set(6, kept), use, changes, slots={6})) == 5, "and setting it writes memory")
+expect(shaped(Set(6, x), Do(calling("neither", local)), slots={6}) == [Do(calling("neither", x))], "a copy that nothing changes is what it is of")
+expect(len(shaped(Set(6, x), changes, slots={6})) == 2, "a copy that something may change is not")
+
+# ---- blocks that are left
+
+a, b, one, two = (Op2(BOOL, "Lt", "Unsigned", x, Num(WORD, n)) for n in (1, 2, 3, 4))
+done, other, third = (Do(calling("neither", Num(WORD, n))) for n in (1, 2, 3))
+negative = Op2(BOOL, "Le", "Unsigned", Num(WORD, 1), x)
+
+
+def op(name, left, right):
+    return Op2(BOOL, name, None, left, right)
+
+
+expect(shaped(Block(1, [If(a, [If(b, [done, Leave(1)], [])], []), other])) == [If(op("Both", a, b), [done], [other])], "a && b")
+expect(shaped(Block(1, [Block(2, [If(a, [], [If(b, [], [Leave(2)])]), done, Leave(1)]), other])) ==
+       [If(op("Either", a, b), [done], [other])], "a || b")
+expect(shaped(Block(1, [If(a, [done, Leave(1)], []), other, third])) == [If(a, [done], [other, third])], "what comes behind is the other branch")
+expect(shaped(Block(1, [If(a, [], [Leave(1)]), done])) == [If(negative, [], [done])], "a block that is left at once")
+expect(shaped(Block(1, [If(a, [done], []), If(b, [Leave(1)], []), other])) == [If(a, [done], []), If(b, [], [other])], "what comes before stays")
+try:
+    shaped(Block(1, [If(a, [If(b, [Leave(1)], [done])], [third]), If(a, [other], []), other, third]))
+    expect(False, "what would be written twice is not known")
+except Unknown:
+    expect(True, "what would be written twice is not known")
+
+# ---- branches that are never gone
+
+expect(shaped(If(a, [done], [Never()])) == [done] and shaped(If(a, [Never()], [done])) == [done], "a test whose other branch is never gone")
+kind = Var(KIND, 7)
+expect(shaped(Cases(kind, [[0], [1]], [[done], [other, Never()]])) == [done], "a case that never is")
+expect(shaped(Cases(kind, [[0], [1], [2]], [[Never()], [done], [other]])) == [Cases(kind, [[1], [2]], [[done], [other]])], "and one of three")
+expect(shaped(Cases(kind, [[1], [0]], [[done], [Return(None)]]), other) == [Unless(kind, 1, [Return(None)]), done, other], "let .. else")
+
+# ---- loops that count
+
+count, less = Set(3, add(kept, Num(WORD, 1))), Op2(BOOL, "Lt", "Unsigned", kept, x)
+end, begin = If(less, [], [Break()]), Set(3, Num(WORD, 0))
+expect(shaped(begin, Loop([end, done, count]), counters={3}) == [For(begin, less, count, [done])], "a loop that counts")
+expect(shaped(begin, Loop([end, If(a, [count, Continue()], []), done, count]), counters={3}) ==
+       [For(begin, less, count, [If(a, [Continue()], []), done])], "and steps before it goes on")
+expect(shaped(begin, Loop([end, done, count])) == [begin, While(less, [done, count])], "what the source counts by hand stays")
+for words, loop in (("that goes on without a step", [end, If(a, [Continue()], []), done, count]),
+                    ("that sets its counter", [end, begin, done, count]), ("that ends without a step", [end, count, done])):
+    expect(isinstance(shaped(begin, Loop(loop), counters={3})[1], While), f"a loop {words} is no counted one")
+
+# ---- truths, where no source has the function
+
+for words, then, rest, made in (("a", True, False, a), ("not a", False, True, negative), ("a && b", b, False, op("Both", a, b)),
+                                ("a || b", True, b, op("Either", a, b)), ("!a && b", False, b, op("Both", negative, b)),
+                                ("!a || b", b, True, op("Either", negative, b))):
+    then, rest = (Truth(BOOL, v) if isinstance(v, bool) else v for v in (then, rest))
+    expect(shaped(If(a, [Set(8, then)], [Set(8, rest)]), Set(8, Var(BOOL, 8)), plain=True)[0] == Set(8, made), f"a branch that sets {words}")
 
 print(f"{passed} passed, {failed} failed")
 sys.exit(failed != 0)

@@ -42,7 +42,27 @@ class Slice:
 
 @dataclass(frozen=True)
 class Named:
+    """A struct or an enum; the name of one that has parameters has behind it what it is given."""
     name: str
+
+
+@dataclass(frozen=True)
+class Const:
+    """A number that stands for a parameter."""
+    number: int
+
+
+def spelled(ty):
+    """A type as Rattle writes it."""
+    if isinstance(ty, Int):
+        return f"u{ty.bits}"
+    if isinstance(ty, Array):
+        return f"[{spelled(ty.of)}; {ty.length}]"
+    if isinstance(ty, Ref):
+        return f"&{'mut ' if ty.mutable else ''}{spelled(ty.to)}"
+    if isinstance(ty, Slice):
+        return f"&{'mut ' if ty.mutable else ''}[{spelled(ty.of)}]"
+    return str(ty.number) if isinstance(ty, Const) else ty.name
 
 
 # ---- values
@@ -114,6 +134,12 @@ class Offset(Value):
 
 
 @dataclass
+class Address(Value):
+    """A reference to a local, or to a field of what one is or leads to."""
+    of: Value
+
+
+@dataclass
 class Load(Value):
     pointer: Value
 
@@ -143,6 +169,13 @@ class Op2(Value):
 class Cast(Value):
     cast: tuple
     value: Value
+
+
+@dataclass
+class Is(Value):
+    """Whether an enum is of a variant."""
+    of: Value
+    variant: int
 
 
 @dataclass
@@ -181,7 +214,8 @@ class SetField:
 
 @dataclass
 class Store:
-    to: Load
+    """What a pointer leads to, or a field of it."""
+    to: Value
     value: Value
 
 
@@ -199,16 +233,30 @@ class If:
 
 @dataclass
 class Cases:
-    """An arm for each variant in order; the last one is for all others."""
+    """Arms with the variants or the numbers that each is for; the last one is for all others."""
     of: Value
+    keys: list
     arms: list
 
 
 @dataclass
 class Unless:
-    """What is done, and leaves, where an enum is not of its first variant."""
+    """What is done, and leaves, where an enum is not of the variant."""
     of: Value
+    variant: int
     other: list
+
+
+@dataclass
+class Block:
+    """What can be left by its number."""
+    number: int
+    body: list
+
+
+@dataclass
+class Leave:
+    number: int
 
 
 @dataclass
@@ -223,6 +271,15 @@ class While:
 
 
 @dataclass
+class For:
+    """A loop that counts: `first` before it, `step` after each turn."""
+    first: Set
+    test: Value
+    step: Set
+    body: list
+
+
+@dataclass
 class Break:
     pass
 
@@ -233,17 +290,23 @@ class Continue:
 
 
 @dataclass
+class Never:
+    """What is never reached, which is proved."""
+
+
+@dataclass
 class Return:
     value: Value
 
 
 @dataclass
 class Fn:
-    """Local 0 is the result, then come the parameters, then the rest."""
+    """Local 0 is the result, then come the parameters, then the rest. `slots` has the locals that references may lead to."""
     name: str
     params: int
     types: list
     body: list
+    slots: frozenset = frozenset()
 
 
 def bodies(statement):
@@ -254,9 +317,14 @@ def bodies(statement):
         return statement.arms
     if isinstance(statement, Unless):
         return [statement.other]
-    if isinstance(statement, (Loop, While)):
+    if isinstance(statement, (Loop, While, For, Block)):
         return [statement.body]
     return []
+
+
+def root(place):
+    """The local or the pointer that a place starts from."""
+    return root(place.of) if isinstance(place, (Field, Held)) else place
 
 
 def values(statement):
@@ -264,13 +332,15 @@ def values(statement):
     if isinstance(statement, Set):
         return [statement.value]
     if isinstance(statement, Store):
-        return [statement.to.pointer, statement.value]
+        return [root(statement.to).pointer, statement.value]
     if isinstance(statement, SetField):
         return [statement.to, statement.value]
     if isinstance(statement, Do):
         return [statement.call]
     if isinstance(statement, (If, While)):
         return [statement.test]
+    if isinstance(statement, For):
+        return [statement.first.value, statement.test, statement.step.value]
     if isinstance(statement, (Cases, Unless)):
         return [statement.of]
     if isinstance(statement, Return) and statement.value is not None:

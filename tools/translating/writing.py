@@ -2,11 +2,12 @@
 
 import re
 
-from forms import COUNTS, KIT, Text, UNARY, WIDTH, indented
-from shape import Shaper, ends, locals_in
-from tree import (Array, BOOL, Call, Cases, Cast, Continue, Do, Field, Held, If, Int, Len, Load, Loop, Make, Named, Num, Offset,
-                  Op1, Op2, Part, Ref, Return, Set, SetField, Slice, Start, Store, Truth, UNIT, Unknown, Unless, Var, While, bodies,
-                  everything, values)
+from forms import COUNTS, Text, UNARY, WIDTH, indented
+from shape import Shaper, ends, locals_in, negated
+from source import HIDDEN, INDEX
+from tree import (Address, Array, BOOL, Break, Call, Cases, Cast, Continue, Do, Field, For, Held, If, Int, Is, Len, Load, Loop, Make, Named,
+                  Num, Offset, Op1, Op2, Part, Ref, Repeat, Return, Set, SetField, Slice, Start, Store, Tag, Truth, UNIT, Unknown, Unless, Var,
+                  While, bodies, everything, spelled, values)
 
 # Names that a C or a C++ compiler keeps for itself.
 KEPT = set("""alignas alignof and and_eq asm auto bitand bitor bool break case catch char class compl concept const consteval constexpr
@@ -28,15 +29,37 @@ def c_type(ty, names):
         return "void"
     if isinstance(ty, Named):
         return names.type(ty.name)
-    raise Unknown(f"a local of type {ty} that is kept")
+    if isinstance(ty, Ref):
+        return pointer_type(ty.mutable, ty.to, names)
+    raise Unknown(f"a local of type {spelled(ty)} that is kept")
 
 
-def pointer_type(mutable, ty):
+def pointer_type(mutable, ty, names):
     """Bytes in memory are `unsigned char`, as in the headers."""
-    name = "unsigned char" if ty == Int(8) else WIDTH[ty.bits] if isinstance(ty, Int) else None
-    if name is None:
-        raise Unknown(f"a pointer to {ty}")
+    name = "unsigned char" if ty == Int(8) else c_type(ty, names)
     return f"{'' if mutable else 'const '}{name} *"
+
+
+def declared(ty, name, names):
+    """A parameter, a member or a local of a type; of a slice there are two."""
+    if isinstance(ty, Slice):
+        return [f"{pointer_type(ty.mutable, ty.of, names)}{name}", f"size_t {name}_len"]
+    if isinstance(ty, Ref) and isinstance(ty.to, Array):
+        return [f"{pointer_type(ty.mutable, ty.to.of, names).rstrip('*')}{name}[{ty.to.length}]"]
+    if isinstance(ty, Ref):
+        return [f"{pointer_type(ty.mutable, ty.to, names)}{name}"]
+    return [f"{c_type(ty, names)} {name}"]
+
+
+def parts_of(held):
+    """How many parts of its own what a variant holds has: 1 where the union's member is that itself."""
+    return len(held) + any(isinstance(ty, Slice) for ty in held)
+
+
+def bytes_of(ty):
+    if not isinstance(ty, Int):
+        raise Unknown(f"a pointer to {spelled(ty)} that is counted on from")
+    return ty.bits // 8
 
 
 def element_of(ty):
@@ -56,12 +79,23 @@ def broken(head, parts, tail):
     return lines
 
 
-class Names:
-    """The C names of functions and types: the crate's, then the item's own. Where an exported call has that name already, the file
-    stands between them, which is `lib` for `lib.rt`."""
+def words_of(given):
+    """What stands in the brackets of a name, as words of a C name."""
+    return re.findall(r"\w+", re.sub(r"\w+::", "", given.replace("()", "void").replace("&", "ref ")))
 
-    def __init__(self, exported, reached):
-        self.taken = dict(exported)
+
+def plain(name):
+    """A number's type in the name of an impl, `U32`, as it is else written."""
+    return name.lower() if re.fullmatch(r"U\d+|Usize|Bool", name) else name
+
+
+class Names:
+    """The C names of functions and types: the crate's, then the item's own, which of a method has its type before it, and then what it is given,
+    as `lists_Small_next`, `runs_fits_8`. Where an exported call has that name already, the file stands between them, which is `lib` for
+    `lib.rt`. A type of the kit's own library has no crate before it: `Option_u32`."""
+
+    def __init__(self, exported, reached, owners):
+        self.taken, self.owners = dict(exported), owners
         self.functions = {path: name for name, path in exported.items()}
         for path in reached:
             if path not in self.functions:
@@ -69,18 +103,35 @@ class Names:
         self.types = {}
 
     def enter(self, path):
-        parts = path.split("::")
-        short = f"{parts[0]}_{parts[-1]}"
+        base, _, given = path.partition("<")
+        parts = base.split("::")
+        own = [*self.own(parts), *words_of(given)]
+        short = "_".join([parts[0], *own])
         if short in self.taken:
-            short = "_".join([parts[0], *(parts[1:-1] or ["lib"]), parts[-1]])
-        if short in self.taken:
-            raise Unknown(f"{path} and {self.taken[short]} would have one name")
-        self.taken[short] = path
-        return short
+            short = "_".join([parts[0], *(parts[1:-1] or ["lib"]), *own])
+        return self.take(short, path)
+
+    def own(self, parts):
+        """A function's name with the type before it that it is a method of. A conversion has behind it what it is from."""
+        if len(parts) < 3 or parts[0] != "core" and not parts[-2][0].isupper():
+            return parts[-1:]
+        if "+" in parts[-2]:
+            return [parts[-2].split("+")[0], parts[-1]]
+        owner = self.owners.get("::".join(parts[:-1]), re.sub("Partial(Eq|Ord)$", "", parts[-2]))
+        source = [parts[-2][len(owner) + 4:]] if parts[-2].startswith(f"{owner}From") else []
+        return [plain(owner), parts[-1], *map(plain, source)]
+
+    def take(self, name, path):
+        if name in self.taken:
+            raise Unknown(f"{path} and {self.taken[name]} would have one name")
+        self.taken[name] = path
+        return name
 
     def type(self, path):
         if path not in self.types:
-            self.types[path] = self.enter(path)
+            base, _, given = path.partition("<")
+            library = base.startswith("core::") or base.startswith("(")
+            self.types[path] = self.take("_".join(words_of(path.replace("(,", "tuple"))), path) if library else self.enter(path)
         return self.types[path]
 
     @staticmethod
@@ -102,19 +153,28 @@ class Writer:
     # ---- names
 
     def read_names(self):
-        """The locals that the source names: first the parameters, then what it binds, in order."""
-        params, names = self.source.params, self.source.names
+        """The locals that the source names: first the parameters, then what it binds, in order. A loop has locals before its own names: over
+        a list one for that, where it is lent on, and one that counts; over what an iterator gives two for the iterator, and one for what
+        it gave."""
+        params, types, local = self.source.params, self.fn.types, self.fn.params + 1
         if len(params) != self.fn.params:
             raise Unknown("the source has another number of parameters")
-        if len(names) > len(self.fn.types) - 1 - self.fn.params:
+        named = dict(enumerate(params, start=1))
+        for name in self.source.names:
+            if name == INDEX:
+                local += 2 if local + 1 in self.fn.slots else isinstance(types[local], Slice)
+            elif name != HIDDEN:
+                named[local] = name
+            local += 1
+        if local > len(types):
             raise Unknown("the source binds more names than there are locals")
-        return dict(enumerate(params + names, start=1))
+        return named
 
     def name_locals(self):
         """A name that the source uses in two places of one function is used twice here, where neither place is inside the other."""
-        taken = []
+        taken, counting = [], {s.first.local for s in everything(self.body) if isinstance(s, For)}
         for local in [*range(1, self.fn.params + 1), *self.scopes]:
-            plain, scope = self.named.get(local, "result" if local == 0 else "value"), self.scopes.get(local, ())
+            plain, scope = self.named.get(local, "result" if local == 0 else "i" if local in counting else "value"), self.scopes.get(local, ())
             name, count = f"{plain}_" if plain in KEPT else plain, 2
             while any(name == other and (scope[:len(around)] == around or around[:len(scope)] == scope) for other, around in taken):
                 name, count = f"{plain}{count}", count + 1
@@ -128,9 +188,11 @@ class Writer:
 
     def write(self):
         self.named = self.read_names()
-        shaper = Shaper(self.file.program, self.fn, set(self.named))
+        shaper = Shaper(self.file.program, self.fn, set(self.named), self.source.plain,
+                        {local for local, name in self.named.items() if name in self.source.counters})
         self.body = shaper.shape()
-        for local, (slice_, base) in shaper.pointers.items():
+        self.pointers = shaper.pointers
+        for local, (slice_, base) in self.pointers.items():
             self.named[local] = f"{self.named[slice_]}_{self.named[base]}"
         self.declare()
         self.name_locals()
@@ -150,17 +212,8 @@ class Writer:
         return [name, f"{name}_len"] if isinstance(self.fn.types[local], Slice) else [name]
 
     def signature(self):
-        params = []
-        for local in range(1, self.fn.params + 1):
-            ty, name = self.fn.types[local], self.locals[local]
-            if isinstance(ty, Slice):
-                params += [f"{pointer_type(ty.mutable, ty.of)}{name}", f"size_t {name}_len"]
-            elif isinstance(ty, Ref):
-                if not isinstance(ty.to, Array):
-                    raise Unknown("a reference to something else than an array")
-                params.append(f"{pointer_type(ty.mutable, ty.to.of).rstrip('*')}{name}[{ty.to.length}]")
-            else:
-                params.append(f"{c_type(ty, self.file.names)} {name}")
+        params = [part for local in range(1, self.fn.params + 1)
+                  for part in declared(self.fn.types[local], self.locals[local], self.file.names) if self.fn.types[local] != UNIT]
         own = "" if self.source.exported else "static inline "
         head = f"{own}{c_type(self.fn.types[0], self.file.names)} {self.file.names.functions[self.path]}("
         return broken(head, params or ["void"], ")")
@@ -216,11 +269,14 @@ class Writer:
         lines = []
         for local in self.places.get(id(statement), []):
             if not self.declares_itself(statement, local):
-                lines.append(f"{c_type(self.fn.types[local], self.file.names)} {self.name(local)};")
+                lines += [f"{part};" for part in self.declared(local)]
         return lines
 
+    def declared(self, local):
+        return declared(self.fn.types[local], self.name(local), self.file.names)
+
     def declares_itself(self, statement, local):
-        return isinstance(statement, Set) and statement.local == local
+        return isinstance(statement, Set) and statement.local == local or isinstance(statement, For) and statement.first.local == local
 
     def statement(self, statement):
         lines = self.declarations(statement)
@@ -229,7 +285,7 @@ class Writer:
         if isinstance(statement, SetField):
             return lines + self.form("set a field", self.value(statement.to), self.value(statement.value))
         if isinstance(statement, Store):
-            return lines + self.form("store", self.load(statement.to), self.value(statement.value))
+            return lines + self.form("store", self.value(statement.to), self.value(statement.value))
         if isinstance(statement, Do):
             return lines + self.form("do", self.value(statement.call))
         if isinstance(statement, If):
@@ -240,8 +296,12 @@ class Writer:
             return lines + self.unless(statement)
         if isinstance(statement, While):
             return lines + self.form("while", self.value(statement.test), self.list(statement.body))
+        if isinstance(statement, For):
+            return lines + self.for_loop(statement)
         if isinstance(statement, Loop):
             return lines + self.form("loop", self.list(statement.body))
+        if isinstance(statement, Break):
+            return lines + self.form("break")
         if isinstance(statement, Continue):
             return lines + self.form("continue")
         if isinstance(statement, Return):
@@ -253,34 +313,48 @@ class Writer:
 
     def if_else(self, test, then, other):
         if not then:
+            test, then, other = negated(test), other, []
+        if not then:
             raise Unknown("an if that has nothing to do")
         return self.form("if", self.value(test), self.list(then), self.list(other))
 
+    def for_loop(self, statement):
+        local, step = statement.first.local, statement.step.value
+        if not isinstance(step, Op2) or (step.op, step.left) != ("Add", Var(self.fn.types[local], local)):
+            raise Unknown("a loop that counts in another way than by a sum")
+        name, start = self.name(local), self.value(statement.first.value)
+        head = self.declared(local)[0] if local in self.places.get(id(statement), []) else name
+        return self.form("for", f"{head} = {start}", self.value(statement.test), self.form("step", name, self.value(step.right)),
+                         self.list(statement.body))
+
     def tags(self, of):
-        """An enum's tag, and the names of all that it may be."""
+        """What is tested, and all that it may be: an enum's tag, or a number."""
+        if isinstance(of.ty, Int):
+            return self.value(of), None
         type_name, variants = self.file.use_type(of.ty.name), self.file.members(of.ty.name)
         return self.form("tag", self.value(of)), [self.file.names.tag(type_name, v) for v in variants]
 
     def unless(self, statement):
         tag, tags = self.tags(statement.of)
-        return self.form("switch, leaving", tag, tags, self.list(statement.other))
+        return self.form("switch, leaving", tag, tags[statement.variant], self.list(statement.other))
 
     def cases(self, statement):
         tag, tags = self.tags(statement.of)
-        return self.form("switch", tag, tags, [self.list(arm) for arm in statement.arms])
+        keys = [[tags[k] if tags else self.number(Num(statement.of.ty, k)) for k in arm] for arm in statement.keys]
+        return self.form("switch", tag, keys, [self.list(arm) for arm in statement.arms])
 
     def set(self, statement):
         local, ty = statement.local, self.fn.types[statement.local]
         if ty == UNIT:
             return []
-        if isinstance(ty, Array):
+        if isinstance(ty, Array) and isinstance(statement.value, Repeat):
             filled = self.form("fill an array", self.name(local), ty.length, self.value(statement.value.value))
             if local not in self.places.get(id(statement), []):
                 raise Unknown("an array that is filled twice")
             return [f"{WIDTH[ty.of.bits]} {self.name(local)}[{ty.length}];"] + filled
-        if isinstance(ty, Ref):
-            return [f"{pointer_type(ty.mutable, ty.to)}{self.name(local)} = {self.pointer(statement.value)};"]
-        value = self.value(statement.value)
+        if isinstance(ty, Slice):
+            return self.set_slice(statement)
+        value = self.pointer(statement.value) if isinstance(ty, Ref) else self.value(statement.value)
         if not self.is_read(local):
             if not isinstance(statement.value, Call):
                 raise Unknown("a value that is not used")
@@ -288,6 +362,15 @@ class Writer:
         if local in self.places.get(id(statement), []):
             return self.form("declare a local", c_type(ty, self.file.names), self.name(local), value)
         return self.form("set a local", self.name(local), value)
+
+    def set_slice(self, statement):
+        """A slice that is a local is two: where it starts, and its length."""
+        local, lines = statement.local, []
+        ty, new = self.fn.types[local], local in self.places.get(id(statement), [])
+        for own, name, value in zip((Ref(ty.mutable, ty.of), None), (self.name(local), f"{self.name(local)}_len"), self.slice(statement.value)):
+            c = c_type(own, self.file.names) if own else "size_t"
+            lines += self.form("declare a local", c, name, value) if new else self.form("set a local", name, value)
+        return lines
 
     # ---- values
 
@@ -298,18 +381,21 @@ class Writer:
             return self.number(value)
         if isinstance(value, Truth):
             return self.form("true" if value.value else "false")
+        if isinstance(value, Tag):
+            return self.tags(value.of)[0]
+        if isinstance(value, Is):
+            tag, tags = self.tags(value.of)
+            return self.form("is of a variant", tag, tags[value.variant])
         if isinstance(value, Field):
             self.file.use_type(value.of.ty.name)
             return self.form("field of a struct", self.value(value.of), self.file.members(value.of.ty.name), value.number)
         if isinstance(value, Held):
             path = value.of.ty.name
             self.file.use_type(path)
-            count = len(self.file.program.variants(path)[value.variant])
-            return self.form("field of a variant", self.value(value.of), self.file.members(path)[value.variant], value.number, count)
+            held = self.file.program.variants(path)[value.variant]
+            return self.form("field of a variant", self.value(value.of), self.file.members(path)[value.variant], value.number, parts_of(held))
         if isinstance(value, Len):
-            if not isinstance(value.of, Var):
-                raise Unknown("the length of a slice that is no parameter")
-            return self.form("length of a slice", self.name(value.of.local))
+            return self.form("length of a slice", self.place(value.of))
         if isinstance(value, Load):
             return self.load(value)
         if isinstance(value, Op1):
@@ -327,20 +413,32 @@ class Writer:
             return self.call(value)
         if isinstance(value, Make):
             return self.make(value)
+        if isinstance(value.ty, Ref):
+            return self.pointer(value)
         raise Unknown(f"a value {type(value).__name__} of type {value.ty} by itself")
+
+    def place(self, value):
+        """A slice's name, which a local has or a field."""
+        if isinstance(value, Var):
+            return Text.of(self.name(value.local), 15)
+        if isinstance(value, (Field, Held)):
+            return self.value(value)
+        raise Unknown("a slice that is no local and no field")
 
     def number(self, value):
         constant = self.file.constant(self.source, value.value)
         return Text.of(constant, 15) if constant else self.form("number", value.ty.bits, value.value)
 
     def op2(self, value):
-        bits = value.left.ty.bits
+        if value.op in ("Both", "Either"):
+            return self.form(value.op, self.value(value.left), self.value(value.right))
+        bits = 32 if value.left.ty == BOOL else value.left.ty.bits
         shifted = self.by_power(value)
         if shifted:
             return shifted
         left, right = self.value(value.left), self.value(value.right)
         # C computes in the width of the operands, and shifts in that of the left one: it must be the form's
-        if value.op in ("Add", "Sub"):
+        if value.op in ("Add", "Sub", "Mul"):
             left, right = self.wide(value.left, left), self.wide(value.right, right)
         if isinstance(value.left, Num) and (isinstance(value.right, Num) or value.op in ("Shl", "Shr")):
             left = Text.of(f"({WIDTH[bits]}){left.at(UNARY)}", UNARY)
@@ -362,7 +460,8 @@ class Writer:
         return Text.of(f"(uint64_t){text.at(UNARY)}", UNARY) if isinstance(value, Len) else text
 
     def make(self, value):
-        path, fields = value.ty.name, [str(self.value(f)) for f in value.fields]
+        path = value.ty.name
+        fields = [part for f in value.fields for part in (self.slice(f) if isinstance(f.ty, Slice) else [str(self.value(f))])]
         type_name = self.file.use_type(path)
         self.file.use_maker(path, value.variant)
         if value.variant is None:
@@ -370,8 +469,6 @@ class Writer:
         return self.form("variant of an enum", type_name, self.file.members(path), value.variant, fields)
 
     def call(self, value):
-        if value.name in KIT:
-            return self.form(KIT[value.name], *(self.value(a) for a in value.args))
         args, types = [], []
         for arg in value.args:
             if isinstance(arg.ty, Slice):
@@ -385,6 +482,8 @@ class Writer:
     # ---- pointers
 
     def load(self, value):
+        if isinstance(value.pointer, Var) and isinstance(value.pointer.ty, Ref) and value.pointer.local not in self.pointers:
+            return self.form("what a pointer leads to", self.pointer(value.pointer))
         pointer, index = self.indexed(value.pointer)
         return self.form("element", pointer, index)
 
@@ -409,27 +508,30 @@ class Writer:
         if isinstance(pointer, Offset):
             return self.size(pointer.pointer)
         if isinstance(pointer, Start):
-            return pointer.of.ty.of.bits // 8
-        if isinstance(pointer, Var) and isinstance(pointer.ty, Ref):
-            return element_of(pointer.ty.to).bits // 8
+            return bytes_of(pointer.of.ty.of)
+        if isinstance(pointer.ty, Ref):
+            return bytes_of(element_of(pointer.ty.to))
         raise Unknown("a pointer of unknown origin")
 
     def pointer(self, pointer):
-        if isinstance(pointer, Start) and isinstance(pointer.of, Var):
-            return Text.of(self.name(pointer.of.local), 15)
-        if isinstance(pointer, Var) and isinstance(pointer.ty, Ref) and pointer.local in self.named:
+        if isinstance(pointer, Start):
+            return self.place(pointer.of)
+        if isinstance(pointer, Var) and isinstance(pointer.ty, Ref) and pointer.local in self.locals:
             return Text.of(self.name(pointer.local), 15)
+        if isinstance(pointer, Address):
+            return self.form("address", self.value(pointer.of))
         if isinstance(pointer, Offset):
             start, index = self.indexed(pointer)
             return self.form("part of a slice", start, index)
+        if isinstance(pointer, (Field, Held, Load, Call)) and isinstance(pointer.ty, Ref):
+            return self.value(pointer)
         raise Unknown("a pointer that is kept in a local")
 
     def slice(self, value):
         """A slice is two arguments."""
-        if isinstance(value, Var):
-            return [self.name(value.local), str(self.form("length of a slice", self.name(value.local)))]
         if not isinstance(value, Part):
-            raise Unknown("a slice that is no parameter and no part of one")
+            place = self.place(value)
+            return [str(place), str(self.form("length of a slice", place))]
         length = value.length
         if isinstance(length, (Num, Len)):
             return [str(self.pointer(value.pointer)), str(self.value(length))]

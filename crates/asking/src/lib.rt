@@ -6,22 +6,15 @@ ghost use Rattle.std.specs.Prelude.{◌≡◌};
 ghost use Rattle.asking.specs.AllHeld as model;
 
 use paper::{BLOCKS, END, START};
+use walk::Blocks;
 
 // Marks the held blocks from `from` to `to`.
 fn mark_run(pool: &[u8], m: &mut [u64], from: u32, to: u32)
     ensures { m.new ≡ model.mark_run pool.now from to m.old }
 {
-    let end = to as usize;
-    let mut at = from as usize;
-    while at < end {
-        let head = heads::apart(words::get32(pool, at));
-        if head.size == 0 {
-            return;
-        }
-        let start = at as u32;
-        at += head.size as usize;
-        if head.held {
-            marks::mark(m, start);
+    for block in Blocks::below(pool, from, to) {
+        if block.head.held {
+            marks::mark(m, block.start as u32);
         }
     }
 }
@@ -30,10 +23,7 @@ fn mark_run(pool: &[u8], m: &mut [u64], from: u32, to: u32)
 fn used_up(m: &mut [u64], offsets: &[u32]) -> bool
     ensures { result ≡ model.used_up m.old offsets.now }
 {
-    let mut i = 0;
-    while i < offsets.len() {
-        let offset = offsets[i];
-        i += 1;
+    for &offset in offsets {
         if offset == 0 {
             continue;
         }
@@ -51,8 +41,8 @@ pub fn all_held(pool: &[u8], offsets: &[u32]) -> bool
     ensures { result ≡ model.all_held pool.now offsets.now }
 {
     let mut m = [0u64; 128];
-    let start = words::get32(pool, START);
-    let end = words::get32(pool, END);
+    let start = words::get::<u32>(pool, START);
+    let end = words::get::<u32>(pool, END);
     mark_run(pool, &mut m, BLOCKS, start);
     mark_run(pool, &mut m, end, walk::pool_end(pool));
     used_up(&mut m, offsets)

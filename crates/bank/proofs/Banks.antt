@@ -12,10 +12,12 @@ use Rattle.pool.proofs.Accepting.{Accepted}
 use Rattle.pool.proofs.Holding.{Held}
 use Rattle.pool.proofs.Named.{Names}
 use Rattle.pool.specs.Calls.{part}
-use Rattle.bank.specs.Calls.{nothing, recall, record_at, refusal, shown}
+use Rattle.bank.specs.Calls.{recall, record_at, refusal, shown}
 use Rattle.bank.specs.declared.recalling.Place.{Place}
 use Rattle.bank.specs.Records.{record_in}
+use Rattle.bank.proofs.Finding.{by-first, by-record}
 use Rattle.bank.proofs.Refusals.{none-refused}
+use Rattle.std.specs.declared.option.Option.TheVariants.{None, Some}
 use Rattle.bank.proofs.Shown.{nothing-shown, record-shown}
 
 -- the record r stands at the start of a held payload
@@ -23,9 +25,8 @@ pub record Setting (bs : List ℕ) (offset : ℕ) (r : List ℕ) : Type 0 where
   pub payload : List ℕ
   pub held : Held bs offset payload
   pub not-zero : offset ≢ 0
-  pub reads : record_in payload ≡ length r
+  pub reads : record_in payload ≡ Some (length r)
   pub starts : firsts (length r) payload ≡ r
-  pub not-empty : 1 ≤ length r
   pub fits : length r ≤ length payload
 
 -- a piston that names an offset, and what it shows
@@ -50,7 +51,6 @@ setting-stays bs bs' offset r k S =
       not-zero = S.not-zero;
       reads = S.reads;
       starts = S.starts;
-      not-empty = S.not-empty;
       fits = S.fits;
     }
 
@@ -70,33 +70,28 @@ module _ (bs bank : List ℕ) (shows : ℕ → List ℕ) (B : Bank bs bank shows
 
   -- what a recall answers, and the bytes of its part
   pub record Recalls (piston : ℕ) (r : List ℕ) : Type 0 where
-    pub accepted : (recall bs bank piston).number ≡ 0
+    pub accepted : (recall bs bank piston).refusal ≡ None
     pub bytes : shown bs (recall bs bank piston) ≡ r
 
   module _ (piston : ℕ) (l : piston < 32) where
-    by-offset : recall bs bank piston ≡ if= (get_or bank piston 0) 0 (nothing bs 0) (record_at bs (get_or bank piston 0) (record_in (part bs (get_or bank piston 0))))
-    unfolding recall
-    by-offset = if=-yes (refusal bs bank piston) 0 _ _ (none-refused bs bank B.accepted bank-names piston l)
-
-    at-record : (o long : ℕ) → 1 ≤ long → record_at bs o long ≡ record { number = 0; from = o; to = o + long }
-    unfolding record_at
-    at-record o long m = if=-no long 0 _ _ (λ e. omega arith)
+    first : refusal bs bank piston ≡ None
+    first = none-refused bs bank B.accepted bank-names piston l
 
     pub recalls : Recalls piston (shows piston)
     recalls = go (B.each piston)
       where
         go : Piston bs (get_or bank piston 0) (shows piston) → Recalls piston (shows piston)
         go (inl e) =
-            let k = by-offset ∙ if=-yes (get_or bank piston 0) 0 _ _ e.0 in
-            record { accepted = ap (λ (p : Place). p.number) k; bytes = ap (shown bs) k ∙ nothing-shown bs (length bs) 0 ∙ sym e.1 }
+            let k = by-first bs bank piston None first ∙ if=-yes (get_or bank piston 0) 0 _ _ e.0 in
+            record { accepted = ap (λ (p : Place). p.refusal) k; bytes = ap (shown bs) k ∙ nothing-shown bs (length bs) None ∙ sym e.1 }
         go (inr S) =
             let o = get_or bank piston 0 in
-            let z : record_in (part bs o) ≡ length (shows piston) = ap record_in S.held.lent ∙ S.reads in
-            let k : recall bs bank piston ≡ record { number = 0; from = o; to = o + length (shows piston) } =
-            by-offset ∙ if=-no o 0 _ _ S.not-zero ∙ ap (record_at bs o) z ∙ at-record o (length (shows piston)) S.not-empty in
+            let z : record_in (part bs o) ≡ Some (length (shows piston)) = ap record_in S.held.lent ∙ S.reads in
+            let k : recall bs bank piston ≡ record { refusal = None; from = o; to = o + length (shows piston) } =
+            by-record bs bank piston first S.not-zero ∙ ap (record_at bs o) z in
             record {
-              accepted = ap (λ (p : Place). p.number) k;
-              bytes = ap (shown bs) k ∙ record-shown bs B.accepted.bytes o S.payload S.held (length (shows piston)) 0 S.fits ∙ S.starts;
+              accepted = ap (λ (p : Place). p.refusal) k;
+              bytes = ap (shown bs) k ∙ record-shown bs B.accepted.bytes o S.payload S.held (length (shows piston)) None S.fits ∙ S.starts;
             }
 
 -- ---- a change

@@ -2,47 +2,51 @@
 -- answer: neither 1 nor 2, and no 12.
 use mathlib.Core.Bool.{Bool, true, false}
 use mathlib.Core.List.{List, [], ◌∷◌}
-use mathlib.Core.Logic.{◌≢◌, ◌⊎◌, inl, inr}
-use mathlib.Core.Path.{◌≡◌, refl, ap, sym, subst, ◌∙◌}
+use mathlib.Core.Logic.{◌⊎◌, inl, inr}
+use mathlib.Core.Path.{◌≡◌, refl, ap, sym, subst}
 use Prim.Native.Nat.{ℕ, zero, suc, ◌<◌}
 use native.Mathlib.Omega.{arith}
 use lib.ListN.{get_or, length, set as put}
-use Rattle.words.specs.Choice.{by<, if=, if=-no, if=-yes}
+use Rattle.words.specs.Choice.{by<, if=, when-no, when-yes}
 use Rattle.words.specs.Words.{Bytes}
-use Rattle.paper.specs.Answers.{number, no_room}
-use Rattle.paper.specs.declared.Answer.{Answer}
-use Rattle.paper.specs.declared.Answer.TheVariants.{Done, Refused}
 use Rattle.pool.proofs.Granted.{refused-for-room}
 use Rattle.pool.specs.Calls.{take}
-use Rattle.bank.specs.Calls.{After, clear, no_piston, no_record, recall, refusal, released, set, store, stored}
+use Rattle.bank.specs.Calls.{After, by_refusal, clear, no_record, recall, refusal, refused, released, set, store, stored}
 use Rattle.bank.specs.declared.recalling.Place.{Place}
 use Rattle.bank.specs.Records.{is_record}
 use Rattle.bank.specs.Run.{Call, Made, accepted, answered, bank_after, clears, pool_after, recalls, sets}
 use Rattle.bank.proofs.Banks.{Bank, bank-changes, bank-names, bank-shows}
 use Rattle.bank.proofs.Banks as banks
 use Rattle.bank.proofs.Outcomes.{clear-done, clear-refused, set-no-record, set-refused, set-stores}
+use Rattle.bank.proofs.Finding.{by-first}
 use Rattle.bank.proofs.Refusals.{none-refused, past-refused}
 use Rattle.bank.proofs.Stored.{released-accepted, released-stays, stored-keeps}
+use Rattle.std.specs.declared.result.Result.TheVariants.{Ok, Err}
+use Rattle.paper.specs.declared.Refusal.TheVariants.{NoPiston, NoRecord, NoRoom}
+use Rattle.paper.specs.Answers.{Answer}
+use Rattle.paper.specs.declared.Refusal.{Refusal}
+use Rattle.std.specs.declared.option.Option.{Option}
+use Rattle.std.specs.declared.option.Option.TheVariants.{None, Some}
 
 -- one of the answers that a call may have
-abbrev pub FairNumber : ℕ → Type 0
-FairNumber k = (k ≡ 0) ⊎ (k ≡ no_room) ⊎ (k ≡ no_piston) ⊎ (k ≡ no_record)
+abbrev pub FairAnswer : Option Refusal → Type 0
+FairAnswer why = (why ≡ None) ⊎ (why ≡ Some NoRoom) ⊎ (why ≡ Some NoPiston) ⊎ (why ≡ Some NoRecord)
 
--- the bank after a call that answered k, by what each piston shows if it was accepted
-pub record Kept (bs bank : List ℕ) (k : ℕ) (old new : ℕ → List ℕ) : Type 0 where
-  pub keeps : Bank bs bank (λ i. if= k 0 (new i) (old i))
-  pub fair : FairNumber k
+-- the bank after a call, by why it was refused, if it was, and by what each piston shows if it was accepted
+pub record Kept (bs bank : List ℕ) (why : Option Refusal) (old new : ℕ → List ℕ) : Type 0 where
+  pub keeps : Bank bs bank (λ i. by_refusal why (λ k. old i) (new i))
+  pub fair : FairAnswer why
 
 module _ (bs bank : List ℕ) (old new : ℕ → List ℕ) where
-  accepted-kept : (k : ℕ) → k ≡ 0 → Bank bs bank new → Kept bs bank k old new
-  accepted-kept k z B = record { keeps = bank-shows bs bank new _ (λ i. sym (if=-yes k 0 _ _ z)) B; fair = inl z }
+  accepted-kept : Bank bs bank new → Kept bs bank None old new
+  accepted-kept B = record { keeps = B; fair = inl refl }
 
-  refused-kept : (k : ℕ) → k ≢ 0 → FairNumber k → Bank bs bank old → Kept bs bank k old new
-  refused-kept k n f B = record { keeps = bank-shows bs bank old _ (λ i. sym (if=-no k 0 _ _ n)) B; fair = f }
+  refused-kept : (k : Refusal) → FairAnswer (Some k) → Bank bs bank old → Kept bs bank (Some k) old new
+  refused-kept k f B = record { keeps = B; fair = f }
 
 -- what a call left, by its outcome
 abbrev KeptBy : After → (old new : ℕ → List ℕ) → Type 0
-KeptBy a old new = Kept a.pool a.bank (number a.answer) old new
+KeptBy a old new = Kept a.pool a.bank (refused a.answer) old new
 
 left : {old new : ℕ → List ℕ} {a b : After} → a ≡ b → KeptBy b old new → KeptBy a old new
 left {old} {new} e k = subst (λ (x : After). KeptBy x old new) (sym e) k
@@ -51,11 +55,8 @@ module _ (bs bank : List ℕ) (shows : ℕ → List ℕ) (B : Bank bs bank shows
   -- ---- what is asked first: 10, or nothing
 
   module _ (p : ℕ) where
-    abbrev why : ℕ
-    why = refusal bs bank p
-
     abbrev First : Type 0
-    First = ((p < 32) × (why ≡ 0)) ⊎ (why ≡ no_piston)
+    First = ((p < 32) × (refusal bs bank p ≡ None)) ⊎ (refusal bs bank p ≡ Some NoPiston)
 
     first-asked : First
     first-asked =
@@ -70,12 +71,12 @@ module _ (bs bank : List ℕ) (shows : ℕ → List ℕ) (B : Bank bs bank shows
         go : First → KeptBy (clear bs bank p) shows (λ i. if= p i [] (shows i))
         go (inl l) =
             let old = get_or bank p 0 in
-            left (clear-done bs bank p why refl l.1 (released bs old) refl)
-            (accepted-kept (released bs old) (put bank p 0) shows (λ i. if= p i [] (shows i)) 0 refl
+            left (clear-done bs bank p l.1 (released bs old) refl)
+            (accepted-kept (released bs old) (put bank p 0) shows (λ i. if= p i [] (shows i))
             (bank-changes bs bank shows B (released bs old) (released-accepted bs B.accepted old) p l.0 0 [] (inl (refl, refl))
             (λ i n m. released-stays bs B.accepted old (get_or bank i 0) (λ k same. n (B.apart i p m same)))
             (λ i n m. m)))
-        go (inr e) = left (clear-refused bs bank p why refl (λ z. omega arith)) (refused-kept bs bank shows _ why (λ z. omega arith) (inr (inr (inl e))) B)
+        go (inr e) = left (clear-refused bs bank p NoPiston e) (refused-kept bs bank shows _ NoPiston (inr (inr (inl refl))) B)
 
     -- ---- set
 
@@ -94,34 +95,38 @@ module _ (bs bank : List ℕ) (shows : ℕ → List ℕ) (B : Bank bs bank shows
         where
           go : (a : Answer) → (take bs (length (kind ∷ body))).answer ≡ a
               → KeptBy (stored bs bank p (kind ∷ body) a (take bs (length (kind ∷ body))).after) shows shown-then
-          go (Done q) e = accepted-kept _ _ shows shown-then 0 refl (stored-keeps bs bank shows B p l kind body is bytes q e)
-          go (Refused k) e =
-              let r : k ≡ no_room = refused-for-room bs B.accepted (length (kind ∷ body)) (omega arith) k e in
-              refused-kept bs bank shows shown-then k (λ z. omega arith) (inr (inl r)) B
+          go (Ok q) e = accepted-kept _ _ shows shown-then (stored-keeps bs bank shows B p l kind body is bytes q e)
+          go (Err k) e =
+              let r : k ≡ NoRoom = refused-for-room bs B.accepted (length (kind ∷ body)) (omega arith) k e in
+              refused-kept bs bank shows shown-then k (inr (inl (ap Some r))) B
 
       pub set_keeps : KeptBy (set bs bank p kind body) shows shown-then
+      unfolding no_record
       set_keeps = go first-asked (is_record kind body) refl
         where
           go : First → (b : Bool) → is_record kind body ≡ b → KeptBy (set bs bank p kind body) shows shown-then
           go (inr e) b is =
-              left (set-refused bs bank p why refl kind body (λ z. omega arith))
-              (refused-kept bs bank shows shown-then why (λ z. omega arith) (inr (inr (inl e))) B)
+              left (set-refused bs bank p kind body NoPiston e) (refused-kept bs bank shows shown-then NoPiston (inr (inr (inl refl))) B)
           go (inl l) false is =
-              left (set-no-record bs bank p why refl kind body l.1 is)
-              (refused-kept bs bank shows shown-then no_record (λ z. omega arith) (inr (inr (inr refl))) B)
-          go (inl l) true is = left (set-stores bs bank p why refl kind body l.1 is) (store_keeps l.0 is)
+              left (set-no-record bs bank p kind body l.1 NoRecord (when-no _ None (Some NoRecord) is))
+              (refused-kept bs bank shows shown-then NoRecord (inr (inr (inr refl))) B)
+          go (inl l) true is =
+              left (set-stores bs bank p kind body l.1 (when-yes _ None (Some NoRecord) is)) (store_keeps l.0 is)
 
     -- ---- recall
 
-    pub recall-keeps : Kept bs bank (recall bs bank p).number shows shows
-    unfolding recall
+    pub recall-keeps : Kept bs bank (recall bs bank p).refusal shows shows
     recall-keeps = go first-asked
       where
-        go : First → Kept bs bank (recall bs bank p).number shows shows
-        go (inl l) = accepted-kept bs bank shows shows _ (banks.recalls bs bank shows B p l.0).accepted B
+        told : {w : Option Refusal} → (recall bs bank p).refusal ≡ w → Kept bs bank w shows shows
+            → Kept bs bank (recall bs bank p).refusal shows shows
+        told e k = subst (λ (w : Option Refusal). Kept bs bank w shows shows) (sym e) k
+
+        go : First → Kept bs bank (recall bs bank p).refusal shows shows
+        go (inl l) = told (banks.recalls bs bank shows B p l.0).accepted (accepted-kept bs bank shows shows B)
         go (inr e) =
-            let k : (recall bs bank p).number ≡ no_piston = ap (λ (x : Place). x.number) (if=-no why 0 _ _ (λ z. omega arith)) ∙ e in
-            refused-kept bs bank shows shows _ (λ z. omega arith) (inr (inr (inl k))) B
+            told (ap (λ (x : Place). x.refusal) (by-first bs bank p (Some NoPiston) e))
+            (refused-kept bs bank shows shows NoPiston (inr (inr (inl refl))) B)
 
   -- ---- any call
 

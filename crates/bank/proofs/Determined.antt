@@ -1,14 +1,14 @@
 -- The statement of each call determines its outcome: of two that it allows the answers are equal, every byte of the pool and every number of the
--- bank; of recalling the numbers, and the part's bytes and place.
+-- bank; of recalling why it is refused, if it is, and the part's bytes and place.
 use mathlib.Core.Path.{◌≡◌, ap, sym, ◌∙◌}
 use mathlib.Core.List.{List}
 use Prim.Native.Nat.{ℕ}
 use denote.Ref.{Bor}
-use Rattle.paper.specs.declared.Answer.{Answer}
 use Rattle.bank.specs.Calls.{After, after, asked, clear, recall, set}
 use Rattle.bank.specs.Recalls.{Finds, Recalls}
 use Rattle.bank.specs.declared.recalling.Place.{Place}
 use Rattle.bank.specs.declared.recalling.Recalled.{Recalled}
+use Rattle.paper.specs.Answers.{Answer}
 
 same_outcome : (o : After) (r r' : Answer) (p p' b b' : List ℕ) → o ≡ after r p b → o ≡ after r' p' b' → (r ≡ r') × (p ≡ p') × (b ≡ b')
 same_outcome o r r' p p' b b' e f =
@@ -31,5 +31,5 @@ module _ (bs bank : List ℕ) (piston : ℕ) where
   ask-determined r r' e f = e ∙ sym f
 
 pub recall-determined : (pool : Bor (List ℕ)) (bank : List ℕ) (piston : ℕ) (r r' : Recalled) → Recalls r pool bank piston → Recalls r' pool bank piston
-    → (r.number ≡ r'.number) × (r.part.now ≡ r'.part.now) × (r.part.ref_ptr ≡ r'.part.ref_ptr)
-recall-determined pool bank piston r r' e e' = (e.number ∙ sym e'.number, e.bytes ∙ sym e'.bytes, e.place ∙ sym e'.place)
+    → (r.refusal ≡ r'.refusal) × (r.part.now ≡ r'.part.now) × (r.part.ref_ptr ≡ r'.part.ref_ptr)
+recall-determined pool bank piston r r' e e' = (e.refusal ∙ sym e'.refusal, e.bytes ∙ sym e'.bytes, e.place ∙ sym e'.place)

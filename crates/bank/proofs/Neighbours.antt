@@ -1,27 +1,32 @@
--- A well-behaved neighbour leaves every recall as it is: its number, its part and the part's bytes. It takes, gives back and writes only to blocks
--- that the bank does not name, and the pool's laws keep every other one.
+-- A well-behaved neighbour leaves every recall as it is: why it is refused, if it is, its part and the part's bytes. It takes, gives back and
+-- writes only to blocks that the bank does not name, and the pool's laws keep every other one.
 use mathlib.Core.List.{List}
 use mathlib.Core.Logic.{◌≢◌}
-use mathlib.Core.Path.{◌≡◌, ap, ap₂, sym, subst, ◌∙◌}
+use mathlib.Core.Path.{◌≡◌, refl, ap, sym, subst, ◌∙◌}
 use Prim.Native.Nat.{ℕ, ◌+◌, ◌≤◌}
 use native.Mathlib.Omega.{arith}
 use lib.ListN.{get_or, length}
 use Rattle.words.proofs.Parts.{replaced-length}
-use Rattle.words.specs.Choice.{by=, if=, if=-no, if=-yes}
+use Rattle.words.specs.Choice.{by=, if=-yes}
 use Rattle.words.specs.Words.{Bytes}
-use Rattle.paper.specs.declared.Answer.TheVariants.{Done}
 use Rattle.pool.proofs.Accepting.{Accepted, give-back-accepted, give-back-long, take-accepted, take_long, write-accepted}
 use Rattle.pool.proofs.Holding.{Held, give-back-keeps-held, payload-inside, take-keeps-held, write-keeps-held}
 use Rattle.pool.proofs.Named.{Names, asked-accepted, asked-held, asked-names}
 use Rattle.pool.specs.Calls.{ask_all, part}
-use Rattle.bank.specs.Calls.{not_named, nothing, recall, record_at, refusal, shown}
+use Rattle.bank.specs.Calls.{nothing, recall, record_at, refusal, shown}
 use Rattle.bank.specs.declared.recalling.Place.{Place}
 use Rattle.bank.specs.Records.{record_in}
 use Rattle.bank.specs.Run.{Act, Behaved, acted, gives, takes, writes}
 use Rattle.bank.proofs.Banks.{Stays}
-use Rattle.bank.proofs.RecordLaws.{record-within}
+use Rattle.bank.proofs.Finding.{by-first, by-record}
+use Rattle.bank.proofs.RecordLaws.{record-reads-within}
 use Rattle.bank.proofs.Refusals.{by-piston}
 use Rattle.bank.proofs.Shown.{nothing-shown, record-shown}
+use Rattle.std.specs.declared.result.Result.TheVariants.{Ok}
+use Rattle.paper.specs.declared.Refusal.{Refusal}
+use Rattle.paper.specs.declared.Refusal.TheVariants.{NotNamed}
+use Rattle.std.specs.declared.option.Option.{Option}
+use Rattle.std.specs.declared.option.Option.TheVariants.{None, Some}
 
 -- what an act leaves: an accepted pool, as long, in which what the bank names is held as before
 pub record Leaves (bs bank bs' : List ℕ) : Type 0 where
@@ -54,11 +59,11 @@ act-leaves bs bank A (writes a new) b =
     own = asked-held bs A.bytes b.offset b.long b.asked
 
     inside : a + length new ≤ b.offset + length own.0
-    inside = let k : Done (length own.0) ≡ Done b.long = sym own.1.asked ∙ b.asked in let e : length own.0 ≡ b.long = cc in omega (arith, b.to)
+    inside = let k : Ok (length own.0) ≡ Ok b.long = sym own.1.asked ∙ b.asked in let e : length own.0 ≡ b.long = cc in omega (arith, b.to)
 
 -- ---- a recall
 
-module _ (bs bank : List ℕ) (bytes : Bytes bs) (p v : ℕ) (asked : ask_all bs bank p ≡ Done v) (a : Act) (b : Behaved bs bank a) where
+module _ (bs bank : List ℕ) (bytes : Bytes bs) (p v : ℕ) (asked : ask_all bs bank p ≡ Ok v) (a : Act) (b : Behaved bs bank a) where
   A : Accepted bs
   A = asked-accepted bs bank p v asked bytes
 
@@ -77,45 +82,51 @@ module _ (bs bank : List ℕ) (bytes : Bytes bs) (p v : ℕ) (asked : ask_all bs
   same-part : o ≢ 0 → part (acted bs a) o ≡ part bs o
   same-part n = let h = N.held p n in (L.stays p n h.0 h.1).lent ∙ sym h.1.lent
 
-  -- a recall by the length of the pool, the first refusal, and the record that reads
-  abbrev by_parts : ℕ → ℕ → ℕ → Place
-  by_parts n why z =
-      if= why 0
-      (if= o 0 (record { number = 0; from = n; to = n })
-      (if= z 0 (record { number = not_named; from = n; to = n }) (record { number = 0; from = o; to = o + z })))
-      (record { number = why; from = n; to = n })
+  same-refusal : refusal (acted bs a) bank p ≡ refusal bs bank p
+  same-refusal = by-piston (acted bs a) bank L.accepted N' p ∙ sym (by-piston bs bank A N p)
+
+  -- the empty part and a record at o stand at the same place in both pools, which are as long
+  same-nothing : (k : Option Refusal) → nothing (acted bs a) k ≡ nothing bs k
+  same-nothing k = ap (λ (n : ℕ). record { refusal = k; from = n; to = n }) L.long
+
+  same-record : (r : Option ℕ) → record_at (acted bs a) o r ≡ record_at bs o r
+  same-record None = same-nothing (Some NotNamed)
+  same-record (Some size) = refl
 
   pub same-recall : recall (acted bs a) bank p ≡ recall bs bank p
-  unfolding recall record_at
-  same-recall =
-      ap₂ (λ (n why : ℕ). by_parts n why (record_in (part (acted bs a) o))) L.long
-      (by-piston (acted bs a) bank L.accepted N' p ∙ sym (by-piston bs bank A N p))
-      ∙ by= o 0
-      (λ z. ap (λ (x : Place). if= (refusal bs bank p) 0 x (nothing bs (refusal bs bank p))) (if=-yes o 0 _ _ z ∙ sym (if=-yes o 0 _ _ z)))
-      (λ n. ap (λ (l : List ℕ). by_parts (length bs) (refusal bs bank p) (record_in l)) (same-part n))
+  same-recall = first (refusal bs bank p) refl
+    where
+      first : (w : Option Refusal) → refusal bs bank p ≡ w → recall (acted bs a) bank p ≡ recall bs bank p
+      first (Some k) e = by-first (acted bs a) bank p (Some k) (same-refusal ∙ e) ∙ same-nothing (Some k) ∙ sym (by-first bs bank p (Some k) e)
+      first None e =
+          by= o 0
+          (λ z. by-first (acted bs a) bank p None (same-refusal ∙ e) ∙ if=-yes o 0 _ _ z ∙ same-nothing None
+          ∙ sym (by-first bs bank p None e ∙ if=-yes o 0 _ _ z))
+          (λ n. by-record (acted bs a) bank p (same-refusal ∙ e) n ∙ ap (λ (l : List ℕ). record_at (acted bs a) o (record_in l)) (same-part n)
+          ∙ same-record (record_in (part bs o))
+          ∙ sym (by-record bs bank p e n))
+
+  abbrev Same : Place → Type 0
+  Same x = shown (acted bs a) x ≡ shown bs x
 
   pub same-shown : shown (acted bs a) (recall (acted bs a) bank p) ≡ shown bs (recall bs bank p)
-  unfolding recall record_at
-  same-shown =
-      ap (shown (acted bs a)) same-recall
-      ∙ by= (refusal bs bank p) 0
-      (λ w. same (if=-yes (refusal bs bank p) 0 _ _ w)
-      (by= o 0 (λ z. same (if=-yes o 0 _ _ z) (none (length bs) 0))
-      (λ n. same (if=-no o 0 _ _ n)
-      (by= (record_in (part bs o)) 0 (λ z. same (if=-yes (record_in (part bs o)) 0 _ _ z) (none (length bs) not_named))
-      (λ m. same (if=-no (record_in (part bs o)) 0 _ _ m) (one n))))))
-      (λ w. same (if=-no (refusal bs bank p) 0 _ _ w) (none (length bs) (refusal bs bank p)))
+  same-shown = ap (shown (acted bs a)) same-recall ∙ first (refusal bs bank p) refl
     where
-      same : {x y : Place} → x ≡ y → shown (acted bs a) y ≡ shown bs y → shown (acted bs a) x ≡ shown bs x
-      same e f = ap (shown (acted bs a)) e ∙ f ∙ ap (shown bs) (sym e)
+      same : {x y : Place} → x ≡ y → Same y → Same x
+      same e s = subst Same (sym e) s
 
-      none : (n k : ℕ) → shown (acted bs a) (record { number = k; from = n; to = n }) ≡ shown bs (record { number = k; from = n; to = n })
+      none : (n : ℕ) (k : Option Refusal) → Same (record { refusal = k; from = n; to = n })
       none n k = nothing-shown (acted bs a) n k ∙ sym (nothing-shown bs n k)
 
-      one : o ≢ 0 → shown (acted bs a) (record { number = 0; from = o; to = o + record_in (part bs o) })
-          ≡ shown bs (record { number = 0; from = o; to = o + record_in (part bs o) })
-      one n =
+      reads : o ≢ 0 → (r : Option ℕ) → record_in (part bs o) ≡ r → Same (record_at bs o r)
+      reads n None e = none (length bs) (Some NotNamed)
+      reads n (Some size) e =
           let h = N.held p n in
-          let l : record_in (part bs o) ≤ length h.0 = subst (λ (x : List ℕ). record_in x ≤ length h.0) (sym h.1.lent) (record-within h.0) in
-          record-shown (acted bs a) L.accepted.bytes o h.0 (L.stays p n h.0 h.1) (record_in (part bs o)) 0 l
-          ∙ sym (record-shown bs bytes o h.0 h.1 (record_in (part bs o)) 0 l)
+          let l = (record-reads-within h.0 size (ap record_in (sym h.1.lent) ∙ e)).within in
+          record-shown (acted bs a) L.accepted.bytes o h.0 (L.stays p n h.0 h.1) size None l ∙ sym (record-shown bs bytes o h.0 h.1 size None l)
+
+      first : (w : Option Refusal) → refusal bs bank p ≡ w → Same (recall bs bank p)
+      first (Some k) e = same (by-first bs bank p (Some k) e) (none (length bs) (Some k))
+      first None e =
+          by= o 0 (λ z. same (by-first bs bank p None e ∙ if=-yes o 0 _ _ z) (none (length bs) None))
+          (λ n. same (by-record bs bank p e n) (reads n (record_in (part bs o)) refl))

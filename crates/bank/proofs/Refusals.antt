@@ -2,133 +2,124 @@
 -- nothing else.
 use mathlib.Core.List.{List}
 use mathlib.Core.Logic.{◌≢◌, ◌⊎◌, inl, inr}
-use mathlib.Core.Path.{◌≡◌, refl, ap, sym, ◌∙◌}
+use mathlib.Core.Path.{◌≡◌, refl, ap, ap₂, sym, ◌∙◌}
 use Prim.Native.Nat.{ℕ, ◌<◌, ◌≤◌}
 use native.Mathlib.Omega.{arith}
 use lib.ListN.{length}
-use Rattle.words.specs.Choice.{by<, by=, if<-no, if<-yes, if=, if=-no, if=-yes}
-use Rattle.paper.specs.Answers.{not_allowed, not_held, not_sound, number}
-use Rattle.paper.specs.declared.Answer.{Answer}
-use Rattle.paper.specs.declared.Answer.TheVariants.{Done, Refused}
+use Rattle.words.specs.Choice.{by<, if<-no, if<-yes}
 use Rattle.pool.proofs.Accepting.{Accepted}
 use Rattle.pool.proofs.Named.{Names, ask-all-either, ask-all-refused, inspect-numbers, inspect-value, names-asked}
 use Rattle.pool.specs.Calls.{ask_all, inspect}
-use Rattle.bank.specs.Calls.{no_piston, not_named, or_else, past, refusal}
+use Rattle.bank.specs.Calls.{named, or_else, past, refusal, refused}
+use Rattle.std.specs.declared.option.Option.{Option}
+use Rattle.std.specs.declared.option.Option.TheVariants.{None, Some}
+use Rattle.std.specs.declared.result.Result.TheVariants.{Ok, Err}
+use Rattle.paper.specs.declared.Refusal.TheVariants.{NoPiston, NotAllowed, NotHeld, NotNamed, NotSound}
+use Rattle.paper.specs.Answers.{Answer}
+use Rattle.paper.specs.declared.Refusal.{Refusal}
 
-pub else-next : (a b : ℕ) → a ≡ 0 → or_else a b ≡ b
-unfolding or_else
-else-next a b e = if=-yes a 0 _ _ e
+-- a refusal is one
+pub some-none : {A : Type 0} (k : Refusal) → ◌≡◌ {A = Option Refusal} (Some k) None → A
+some-none k e = absurd (let z : ◌≡◌ {A = ℕ} 0 1 = cc in omega arith)
 
-pub else-first : (a b : ℕ) → 1 ≤ a → or_else a b ≡ a
-unfolding or_else
-else-first a b l = if=-no a 0 _ _ (λ e. omega arith)
+module _ (bs bank : List ℕ) (piston : ℕ) where
+  -- by what inspecting and asking about the whole bank answer
+  pub by-both : (a b : Answer) → inspect bs ≡ a → ask_all bs bank piston ≡ b → refusal bs bank piston ≡ or_else (refused a) (past piston (named b))
+  unfolding refusal
+  by-both a b e f = ap₂ (λ (x y : Answer). or_else (refused x) (past piston (named y))) e f
 
 module _ (bs bank : List ℕ) (A : Accepted bs) (N : Names bs bank) (piston : ℕ) where
-  named : if= (number (ask_all bs bank piston)) 0 0 not_named ≡ 0
-  named = if=-yes (number (ask_all bs bank piston)) 0 0 not_named (ap number (names-asked bs bank A N piston).1)
+  pub by-piston : refusal bs bank piston ≡ past piston None
+  by-piston = let d = names-asked bs bank A N piston in by-both bs bank piston (Ok (length bs)) (Ok d.0) A.inspected d.1
 
-  pub by-piston : refusal bs bank piston ≡ past piston 0
-  unfolding refusal
-  by-piston = else-next _ _ (ap number A.inspected) ∙ ap (past piston) named
-
-  pub none-refused : piston < 32 → refusal bs bank piston ≡ 0
+  pub none-refused : piston < 32 → refusal bs bank piston ≡ None
   unfolding past
   none-refused l = by-piston ∙ if<-yes piston 32 _ _ l
 
-  pub past-refused : 32 ≤ piston → refusal bs bank piston ≡ no_piston
+  pub past-refused : 32 ≤ piston → refusal bs bank piston ≡ Some NoPiston
   unfolding past
   past-refused l = by-piston ∙ if<-no piston 32 _ _ l
 
 -- ---- what the code finds, by what asking about the whole bank answers
 
 module _ (bs bank : List ℕ) (piston : ℕ) where
-  -- the pool is not read, or what the bank names decides
-  unread : (k : ℕ) → inspect bs ≡ Refused k → k ≡ refusal bs bank piston
-  unfolding refusal
-  unread k e =
-      let n : 1 ≤ k = nonzero (inspect-numbers bs k e) in
-      sym (else-first (number (inspect bs)) _ (omega (arith, ap number e)) ∙ ap number e)
-    where
-      nonzero : (k ≡ not_allowed) ⊎ (k ≡ not_sound) → 1 ≤ k
-      nonzero (inl f) = omega arith
-      nonzero (inr f) = omega arith
-
-  asked : (v : ℕ) → inspect bs ≡ Done v → (a : Answer) → ask_all bs bank piston ≡ a
-      → past piston (if= (number a) 0 0 not_named) ≡ refusal bs bank piston
-  unfolding refusal
-  asked v e a f =
-      sym (else-next _ _ (ap number e) ∙ ap (λ (x : Answer). past piston (if= (number x) 0 0 not_named)) f)
-
-  never : {A : Type 0} (k v : ℕ) → Refused k ≡ Done v → A
-  never k v e = absurd (let z : ◌≡◌ {A = ℕ} 0 1 = cc in omega arith)
-
   -- it names held payloads, each once
-  pub refusal-named : (v : ℕ) → ask_all bs bank piston ≡ Done v → past piston 0 ≡ refusal bs bank piston
+  pub refusal-named : (v : ℕ) → ask_all bs bank piston ≡ Ok v → refusal bs bank piston ≡ past piston None
   refusal-named v e = go (inspect bs) refl
     where
-      go : (a : Answer) → inspect bs ≡ a → past piston 0 ≡ refusal bs bank piston
-      go (Refused k) f = never k v (sym (ask-all-refused bs bank piston k f) ∙ e)
-      go (Done w) f = ap (past piston) (sym (if=-yes 0 0 0 not_named refl)) ∙ asked w f (Done v) e
+      go : (a : Answer) → inspect bs ≡ a → refusal bs bank piston ≡ past piston None
+      go (Err k) f =
+          let g : Err k ≡ Ok v = sym (ask-all-refused bs bank piston k f) ∙ e in
+          absurd (let z : ◌≡◌ {A = ℕ} 0 1 = cc in omega arith)
+      go (Ok w) f = by-both bs bank piston (Ok w) (Ok v) f e
 
   -- it does not
-  pub refusal-unnamed : (k : ℕ) → ask_all bs bank piston ≡ Refused k → k ≡ not_held → past piston not_named ≡ refusal bs bank piston
-  refusal-unnamed k e h = go (inspect bs) refl
+  pub refusal-unnamed : ask_all bs bank piston ≡ Err NotHeld → refusal bs bank piston ≡ past piston (Some NotNamed)
+  refusal-unnamed e = go (inspect bs) refl
     where
-      go : (a : Answer) → inspect bs ≡ a → past piston not_named ≡ refusal bs bank piston
-      go (Refused j) f =
-          let g : Refused j ≡ Refused k = sym (ask-all-refused bs bank piston j f) ∙ e in
-          let same : j ≡ k = cc in
-          absurd (not_five (inspect-numbers bs j f) (same ∙ h))
+      go : (a : Answer) → inspect bs ≡ a → refusal bs bank piston ≡ past piston (Some NotNamed)
+      go (Err j) f = other (inspect-numbers bs j f)
         where
-          not_five : (j ≡ not_allowed) ⊎ (j ≡ not_sound) → j ≡ not_held → ⊥
-          not_five (inl x) y = omega arith
-          not_five (inr x) y = omega arith
-      go (Done w) f = ap (past piston) (sym (if=-no k 0 0 not_named (λ z. omega arith))) ∙ asked w f (Refused k) e
+          other : (j ≡ NotAllowed) ⊎ (j ≡ NotSound) → refusal bs bank piston ≡ past piston (Some NotNamed)
+          other h =
+              let g : Err j ≡ Err NotHeld = sym (ask-all-refused bs bank piston j f) ∙ e in
+              let same : j ≡ NotHeld = cc in
+              absurd (not-held same h)
+            where
+              not-held : j ≡ NotHeld → (j ≡ NotAllowed) ⊎ (j ≡ NotSound) → ⊥
+              not-held x (inl y) = let z : ◌≡◌ {A = ℕ} 0 1 = cc in omega arith
+              not-held x (inr y) = let z : ◌≡◌ {A = ℕ} 0 1 = cc in omega arith
+      go (Ok w) f = by-both bs bank piston (Ok w) (Err NotHeld) f e
 
   -- the pool was not read
-  pub refusal-unread : (k : ℕ) → ask_all bs bank piston ≡ Refused k → k ≢ not_held → k ≡ refusal bs bank piston
+  pub refusal-unread : (k : Refusal) → ask_all bs bank piston ≡ Err k → k ≢ NotHeld → refusal bs bank piston ≡ Some k
   refusal-unread k e n = go (inspect bs) refl
     where
-      go : (a : Answer) → inspect bs ≡ a → k ≡ refusal bs bank piston
-      go (Refused j) f = let g : Refused k ≡ Refused j = sym e ∙ ask-all-refused bs bank piston j f in let same : k ≡ j = cc in same ∙ unread j f
-      go (Done w) f = other (ask-all-either bs bank piston w f)
+      go : (a : Answer) → inspect bs ≡ a → refusal bs bank piston ≡ Some k
+      go (Err j) f =
+          let g : Err j ≡ Err k = sym (ask-all-refused bs bank piston j f) ∙ e in
+          let same : j ≡ k = cc in
+          by-both bs bank piston (Err j) (Err k) f e ∙ ap Some same
+      go (Ok w) f = other (ask-all-either bs bank piston w f)
         where
-          other : ((v : ℕ) × (ask_all bs bank piston ≡ Done v)) ⊎ (ask_all bs bank piston ≡ Refused not_held) → k ≡ refusal bs bank piston
-          other (inl g) = never k g.0 (sym e ∙ g.1)
-          other (inr g) = let x : Refused k ≡ Refused not_held = sym e ∙ g in let same : k ≡ not_held = cc in absurd (n same)
+          other : ((v : ℕ) × (ask_all bs bank piston ≡ Ok v)) ⊎ (ask_all bs bank piston ≡ Err NotHeld) → refusal bs bank piston ≡ Some k
+          other (inl g) = absurd (let x : Err k ≡ Ok g.0 = sym e ∙ g.1 in let z : ◌≡◌ {A = ℕ} 0 1 = cc in omega arith)
+          other (inr g) = let x : Err k ≡ Err NotHeld = sym e ∙ g in let same : k ≡ NotHeld = cc in absurd (n same)
+
+-- ---- by what is asked of the piston alone
+
+past-none : (p : ℕ) (k : Option Refusal) → past p k ≡ None → (p < 32) × (k ≡ None)
+unfolding past
+past-none p k e =
+    by< p 32 (λ l. (l, sym (if<-yes p 32 k (Some NoPiston) l) ∙ e)) (λ l. some-none NoPiston (sym (if<-no p 32 k (Some NoPiston) l) ∙ e))
+
+pub past-next : (p : ℕ) (k : Option Refusal) → past p None ≡ None → past p k ≡ k
+unfolding past
+past-next p k e = if<-yes p 32 _ _ (past-none p None e).0
+
+pub past-first : (p : ℕ) (k : Option Refusal) (j : Refusal) → past p None ≡ Some j → past p k ≡ Some j
+unfolding past
+past-first p k j e =
+    by< p 32 (λ l. some-none j (sym e ∙ if<-yes p 32 None (Some NoPiston) l))
+    (λ l. if<-no p 32 k (Some NoPiston) l ∙ sym (if<-no p 32 None (Some NoPiston) l) ∙ e)
 
 -- ---- where nothing refuses
 
 pub record Passed (bs bank : List ℕ) (piston : ℕ) : Type 0 where
   pub below : piston < 32
-  pub inspected : inspect bs ≡ Done (length bs)
-  pub asked : (w : ℕ) × (ask_all bs bank piston ≡ Done w)
-
-else-zero : (a b : ℕ) → or_else a b ≡ 0 → (a ≡ 0) × (b ≡ 0)
-unfolding or_else
-else-zero a b e = by= a 0 (λ z. (z, sym (if=-yes a 0 b a z) ∙ e)) (λ n. absurd (n (sym (if=-no a 0 b a n) ∙ e)))
-
-past-zero : (p k : ℕ) → past p k ≡ 0 → (p < 32) × (k ≡ 0)
-unfolding past
-past-zero p k e =
-    by< p 32 (λ l. (l, sym (if<-yes p 32 k no_piston l) ∙ e)) (λ l. absurd (omega (arith, sym (if<-no p 32 k no_piston l) ∙ e)))
+  pub inspected : inspect bs ≡ Ok (length bs)
+  pub asked : (w : ℕ) × (ask_all bs bank piston ≡ Ok w)
 
 module _ (bs bank : List ℕ) (piston : ℕ) where
-  pub nothing-refuses : (why : ℕ) → why ≡ refusal bs bank piston → why ≡ 0 → Passed bs bank piston
-  unfolding refusal
-  nothing-refuses why e z =
-      let a = else-zero _ _ (sym e ∙ z) in
-      let p = past-zero piston _ a.1 in
-      go (inspect bs) refl a.0 p.0 p.1
+  pub nothing-refuses : refusal bs bank piston ≡ None → Passed bs bank piston
+  nothing-refuses z = go (inspect bs) (ask_all bs bank piston) refl refl
     where
-      go : (a : Answer) → inspect bs ≡ a → number (inspect bs) ≡ 0 → piston < 32 → if= (number (ask_all bs bank piston)) 0 0 not_named ≡ 0 → Passed bs bank piston
-      go (Refused k) f n l m = absurd (zero_number (inspect-numbers bs k f) (sym (ap number f) ∙ n))
-        where
-          zero_number : (k ≡ not_allowed) ⊎ (k ≡ not_sound) → k ≡ 0 → ⊥
-          zero_number (inl x) y = omega arith
-          zero_number (inr x) y = omega arith
-      go (Done v) f n l m = record { below = l; inspected = inspect-value bs v f; asked = named (ask-all-either bs bank piston v f) }
-        where
-          named : ((w : ℕ) × (ask_all bs bank piston ≡ Done w)) ⊎ (ask_all bs bank piston ≡ Refused not_held) → (w : ℕ) × (ask_all bs bank piston ≡ Done w)
-          named (inl g) = g
-          named (inr g) = absurd (omega (arith, if=-no {A = ℕ} (number (ask_all bs bank piston)) 0 0 not_named (λ y. omega (arith, ap number g)), m))
+      go : (a b : Answer) → inspect bs ≡ a → ask_all bs bank piston ≡ b → Passed bs bank piston
+      go (Err k) b f g = some-none k (sym (by-both bs bank piston (Err k) b f g) ∙ z)
+      go (Ok v) (Err k) f g = some-none NotNamed (past-none piston (Some NotNamed) (sym (by-both bs bank piston (Ok v) (Err k) f g) ∙ z)).1
+      go (Ok v) (Ok w) f g =
+          record {
+            below = (past-none piston None (sym (by-both bs bank piston (Ok v) (Ok w) f g) ∙ z)).0;
+            inspected = inspect-value bs v f;
+            asked = (w, g);
+          }

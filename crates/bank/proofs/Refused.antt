@@ -2,70 +2,73 @@
 -- part at the pool's end. And a clear of an empty piston changes nothing either.
 use mathlib.Core.List.{List, ◌∷◌}
 use mathlib.Core.Logic.{◌≢◌}
-use mathlib.Core.Path.{◌≡◌, refl, ap, ap₂, sym, subst, ◌∙◌}
+use mathlib.Core.Path.{◌≡◌, refl, ap, sym, subst, ◌∙◌}
 use Prim.Native.Nat.{ℕ}
 use lib.ListN.{get_or, length, set as put}
 use lib.Seq.{set-get_or}
-use Rattle.words.specs.Choice.{by=, if=-no, if=-yes, when}
-use Rattle.paper.specs.Answers.{number}
-use Rattle.paper.specs.declared.Answer.{Answer}
-use Rattle.paper.specs.declared.Answer.TheVariants.{Done, Refused}
+use Rattle.words.specs.Choice.{by=, if=, if=-no, if=-yes}
 use Rattle.pool.specs.Calls.{part, take}
-use Rattle.bank.specs.Calls.{After, after, clear, no_record, nothing, or_else, recall, record_at, refusal, released, set, store, stored}
+use Rattle.bank.specs.Calls.{After, after, by_refusal, clear, no_record, nothing, or_else, recall, record_at, refusal, refused, set, store, stored}
 use Rattle.bank.specs.declared.recalling.Place.{Place}
-use Rattle.bank.specs.Records.{is_record, record_in}
+use Rattle.bank.specs.Records.{record_in}
+use Rattle.bank.proofs.Outcomes.{clear-done, released-none}
 use Rattle.bank.specs.Run.{Call, answered, bank_after, clears, pool_after, recalls, sets}
+use Rattle.std.specs.declared.option.Option.{Option}
+use Rattle.std.specs.declared.option.Option.TheVariants.{None, Some}
+use Rattle.std.specs.declared.result.Result.TheVariants.{Ok, Err}
+use Rattle.paper.specs.Answers.{Answer}
+use Rattle.paper.specs.declared.Refusal.{Refusal}
 
 module _ (bs bank : List ℕ) where
   -- an outcome that is refused leaves both
   abbrev Unchanged : After → Type 0
-  Unchanged a = number a.answer ≢ 0 → (a.pool ≡ bs) × (a.bank ≡ bank)
-
-  same : {x y : After} → x ≡ y → Unchanged y → Unchanged x
-  same e u = subst Unchanged (sym e) u
+  Unchanged a = refused a.answer ≢ None → (a.pool ≡ bs) × (a.bank ≡ bank)
 
   store-unchanged : (piston : ℕ) (r : List ℕ) → Unchanged (store bs bank piston r)
   unfolding store
   store-unchanged piston r = go (take bs (length r)).answer (take bs (length r)).after
     where
       go : (a : Answer) (taken : List ℕ) → Unchanged (stored bs bank piston r a taken)
-      go (Done q) taken n = absurd (n refl)
-      go (Refused k) taken n = (refl, refl)
+      go (Ok q) taken n = absurd (n refl)
+      go (Err k) taken n = (refl, refl)
 
-  set-unchanged : (piston kind : ℕ) (body : List ℕ) → Unchanged (set bs bank piston kind body)
-  unfolding set
-  set-unchanged piston kind body =
-      by= (or_else (refusal bs bank piston) (when (is_record kind body) 0 no_record)) 0
-      (λ z. same (if=-yes _ 0 _ _ z) (store-unchanged piston (kind ∷ body)))
-      (λ n. same (if=-no _ 0 _ _ n) (λ _. (refl, refl)))
+  first-unchanged : (w : Option Refusal) (done : After) → Unchanged done → Unchanged (by_refusal w (λ k. after (Err k) bs bank) done)
+  first-unchanged (Some k) done u n = (refl, refl)
+  first-unchanged None done u n = u n
 
-  clear-unchanged : (piston : ℕ) → Unchanged (clear bs bank piston)
-  unfolding clear
-  clear-unchanged piston =
-      by= (refusal bs bank piston) 0 (λ z. same (if=-yes _ 0 _ _ z) (λ n. absurd (n refl))) (λ n. same (if=-no _ 0 _ _ n) (λ _. (refl, refl)))
-
-  pub refused-changes-nothing : (c : Call) → answered bs bank c ≢ 0 → (pool_after bs bank c ≡ bs) × (bank_after bs bank c ≡ bank)
-  refused-changes-nothing (sets piston kind body) n = set-unchanged piston kind body n
-  refused-changes-nothing (clears piston) n = clear-unchanged piston n
+  pub refused-changes-nothing : (c : Call) → answered bs bank c ≢ None → (pool_after bs bank c ≡ bs) × (bank_after bs bank c ≡ bank)
+  unfolding set clear
+  refused-changes-nothing (sets piston kind body) n =
+      first-unchanged (or_else (refusal bs bank piston) (no_record kind body)) _ (store-unchanged piston (kind ∷ body)) n
+  refused-changes-nothing (clears piston) n = first-unchanged (refusal bs bank piston) _ (λ m. absurd (m refl)) n
   refused-changes-nothing (recalls piston) n = (refl, refl)
 
-  pub refused-recall : (piston : ℕ) → (recall bs bank piston).number ≢ 0 → recall bs bank piston ≡ nothing bs (recall bs bank piston).number
-  unfolding recall record_at
-  refused-recall piston =
-      by= (refusal bs bank piston) 0
-      (λ z. shown-as (if=-yes _ 0 _ _ z)
-      (by= (get_or bank piston 0) 0 (λ y. shown-as (if=-yes _ 0 _ _ y) (λ n. absurd (n refl)))
-      (λ m. shown-as (if=-no _ 0 _ _ m)
-      (by= (record_in (part bs (get_or bank piston 0))) 0 (λ y. shown-as (if=-yes _ 0 _ _ y) (λ _. refl)) (λ l. shown-as (if=-no _ 0 _ _ l) (λ n. absurd (n refl)))))))
-      (λ m. shown-as (if=-no _ 0 _ _ m) (λ _. refl))
+  -- a place that is refused is the empty part
+  abbrev Empty : Place → Type 0
+  Empty p = p.refusal ≢ None → p ≡ nothing bs p.refusal
+
+  abbrev by_payload : ℕ → Place
+  by_payload o = if= o 0 (nothing bs None) (record_at bs o (record_in (part bs o)))
+
+  pub refused-recall : (piston : ℕ) → (recall bs bank piston).refusal ≢ None → recall bs bank piston ≡ nothing bs (recall bs bank piston).refusal
+  unfolding recall
+  refused-recall piston = first (refusal bs bank piston)
     where
-      shown-as : {x y : Place} → x ≡ y → (y.number ≢ 0 → y ≡ nothing bs y.number) → x.number ≢ 0 → x ≡ nothing bs x.number
-      shown-as {x} {y} e u = subst (λ (p : Place). p.number ≢ 0 → p ≡ nothing bs p.number) (sym e) u
+      reads : (o : ℕ) (r : Option ℕ) → Empty (record_at bs o r)
+      reads o None n = refl
+      reads o (Some size) n = absurd (n refl)
+
+      payload : (o : ℕ) → Empty (by_payload o)
+      payload o =
+          by= o 0 (λ z. subst Empty (sym (if=-yes o 0 _ _ z)) (λ n. absurd (n refl)))
+          (λ m. subst Empty (sym (if=-no o 0 _ _ m)) (reads o (record_in (part bs o))))
+
+      first : (w : Option Refusal) → Empty (by_refusal w (λ k. nothing bs (Some k)) (by_payload (get_or bank piston 0)))
+      first (Some k) = λ n. refl
+      first None = payload (get_or bank piston 0)
 
   -- "clear of one 0 and no byte changed"
-  pub clear-of-empty : (piston : ℕ) → refusal bs bank piston ≡ 0 → get_or bank piston 0 ≡ 0 → clear bs bank piston ≡ after (Done (length bs)) bs bank
-  unfolding clear released
+  pub clear-of-empty : (piston : ℕ) → refusal bs bank piston ≡ None → get_or bank piston 0 ≡ 0 → clear bs bank piston ≡ after (Ok (length bs)) bs bank
   clear-of-empty piston z e =
-      if=-yes _ 0 _ _ z
-      ∙ ap₂ (λ (l b : List ℕ). after (Done (length bs)) l b) (if=-yes (get_or bank piston 0) 0 _ _ e)
-      (ap (put bank piston) (sym e) ∙ set-get_or bank piston 0)
+      clear-done bs bank piston z bs (released-none bs (get_or bank piston 0) e)
+      ∙ ap (after (Ok (length bs)) bs) (ap (put bank piston) (sym e) ∙ set-get_or bank piston 0)

@@ -8,12 +8,14 @@ use lib.Seq.{take-take}
 use Rattle.words.specs.Words.{Bytes}
 use Rattle.pool.proofs.Holding.{Held, held-there}
 use Rattle.bank.specs.Calls.{shown}
+use Rattle.paper.specs.declared.Refusal.{Refusal}
+use Rattle.std.specs.declared.option.Option.{Option}
 
-pub nothing-shown : (bs : List ℕ) (n k : ℕ) → shown bs (record { number = k; from = n; to = n }) ≡ []
+pub nothing-shown : (bs : List ℕ) (n : ℕ) (k : Option Refusal) → shown bs (record { refusal = k; from = n; to = n }) ≡ []
 nothing-shown bs n k = let e : n - n ≡ 0 = omega arith in ap (λ (z : ℕ). firsts z (drop n bs)) e
 
-pub record-shown : (bs : List ℕ) → Bytes bs → (o : ℕ) (payload : List ℕ) → Held bs o payload → (z k : ℕ) → z ≤ length payload
-    → shown bs (record { number = k; from = o; to = o + z }) ≡ firsts z payload
+pub record-shown : (bs : List ℕ) → Bytes bs → (o : ℕ) (payload : List ℕ) → Held bs o payload → (z : ℕ) (k : Option Refusal) → z ≤ length payload
+    → shown bs (record { refusal = k; from = o; to = o + z }) ≡ firsts z payload
 record-shown bs bytes o payload h z k l =
     let e : o + z - o ≡ z = omega arith in
     ap (λ (m : ℕ). firsts m (drop o bs)) e ∙ sym (take-take z (length payload) (drop o bs) l)

@@ -12,7 +12,6 @@ use Rattle.words.proofs.Parts.{replaced-length}
 use Rattle.words.specs.Choice.{by=, if=, if=-no, if=-yes}
 use Rattle.words.specs.Parts.{replaced_part}
 use Rattle.words.specs.Words.{Bytes}
-use Rattle.paper.specs.declared.Answer.TheVariants.{Done}
 use Rattle.pool.proofs.Accepting.{Accepted, give-back-accepted, take-accepted, write-accepted}
 use Rattle.pool.proofs.Granted.{granted-held, granted-new}
 use Rattle.pool.proofs.Holding.{Held, give-back-keeps-held, held-there, take-keeps-held, write-held, write-keeps-held}
@@ -21,6 +20,7 @@ use Rattle.bank.specs.Calls.{released}
 use Rattle.bank.specs.Records.{is_record}
 use Rattle.bank.proofs.Banks.{Bank, Setting, Stays, bank-changes, bank-names, setting-stays}
 use Rattle.bank.proofs.RecordLaws.{record-reads}
+use Rattle.std.specs.declared.result.Result.TheVariants.{Ok}
 
 -- ---- the old block is given back
 
@@ -51,7 +51,6 @@ module _ (kind : ℕ) (body : List ℕ) (is : is_record kind body ≡ true) wher
           not-zero = n;
           reads = record-reads kind body is (replaced_part payload 0 (kind ∷ body)) refl (omega (arith, long));
           starts = take-append_seam (kind ∷ body) (drop (0 + length (kind ∷ body)) payload);
-          not-empty = omega arith;
           fits = omega (arith, long);
         }
       where
@@ -62,7 +61,7 @@ module _ (kind : ℕ) (body : List ℕ) (is : is_record kind body ≡ true) wher
 
 module _ (bs bank : List ℕ) (shows : ℕ → List ℕ) (B : Bank bs bank shows) (p : ℕ) (below : p < 32)
     (kind : ℕ) (body : List ℕ) (is : is_record kind body ≡ true) (bytes : Bytes (kind ∷ body))
-    (q : ℕ) (e : (take bs (length (kind ∷ body))).answer ≡ Done q) where
+    (q : ℕ) (e : (take bs (length (kind ∷ body))).answer ≡ Ok q) where
   taken : List ℕ
   taken = (take bs (length (kind ∷ body))).after
 

@@ -1,4 +1,5 @@
--- What a recall gives its caller: the number, and the record as a part of the caller's own pool, by its bytes and its place in memory.
+-- What a recall gives its caller: why it is refused, if it is, and the record as a part of the caller's own pool, by its bytes and its place in
+-- memory.
 use Rattle.std.specs.Prelude.{◌≡◌, List, ℕ, ◌+◌, ◌≤◌, length}
 use Rattle.std.specs.Borrow.{Bor}
 use Rattle.bank.specs.Calls.{recall, shown}
@@ -17,6 +18,6 @@ pub record Cuts (r pool : Bor (List ℕ)) (p : Place) : Type 0 where
   pub place : r.ref_ptr ≡ (pool.ref_ptr.0, pool.ref_ptr.1 + p.from)
 
 pub record Recalls (r : Recalled) (pool : Bor (List ℕ)) (bank : List ℕ) (piston : ℕ) : Type 0 where
-  pub number : r.number ≡ (recall pool.now bank piston).number
+  pub refusal : r.refusal ≡ (recall pool.now bank piston).refusal
   pub bytes : r.part.now ≡ shown pool.now (recall pool.now bank piston)
   pub place : r.part.ref_ptr ≡ (pool.ref_ptr.0, pool.ref_ptr.1 + (recall pool.now bank piston).from)

@@ -1,13 +1,14 @@
 -- A run of calls on a bank, and what a dealer expects each piston to show after it: "each piston shows its latest accepted setting" (request
 -- 2026-03).
-use Rattle.std.specs.Prelude.{List, [], ◌∷◌, ◌≢◌, ◌⊎◌, ◌≡◌, ℕ, ◌+◌, ◌<◌, ◌≤◌, get_or, length, replicate}
+use Rattle.std.specs.Prelude.{List, [], ◌∷◌, ◌≢◌, ◌⊎◌, ◌≡◌, ℕ, ◌+◌, ◌<◌, ◌≤◌, Option, Some, None, get_or, length, replicate}
 use Rattle.words.specs.Choice.{if=}
 use Rattle.words.specs.Parts.{replaced_part}
 use Rattle.words.specs.Words.{Bytes}
-use Rattle.paper.specs.Answers.{number, no_room}
-use Rattle.paper.specs.declared.Answer.TheVariants.{Done}
 use Rattle.pool.specs.Calls.{take, give_back, ask}
-use Rattle.bank.specs.Calls.{no_piston, no_record, set, clear, recall, shown}
+use Rattle.bank.specs.Calls.{by_refusal, refused, set, clear, recall, shown}
+use Rattle.std.specs.declared.result.Result.TheVariants.{Ok}
+use Rattle.paper.specs.declared.Refusal.{Refusal}
+use Rattle.paper.specs.declared.Refusal.TheVariants.{NoPiston, NoRecord, NoRoom}
 
 pub data Call : Type 0 where
   sets : (piston kind : ℕ) (body : List ℕ) → Call
@@ -15,10 +16,10 @@ pub data Call : Type 0 where
 
 -- ---- by the list of calls and their answers alone
 
--- a call, and the number that it answered
+-- a call, and what it answered: why it was refused, if it was
 pub record Line : Type 0 where
   pub call : Call
-  pub number : ℕ
+  pub refusal : Option Refusal
 
 -- what the piston shows after a call that was accepted: the record that it was set to, nothing where it was cleared, else what it showed
 abbrev pub accepted : ℕ → List ℕ → Call → List ℕ
@@ -29,7 +30,7 @@ accepted piston old (recalls p) = old
 -- down the list, from what it showed before: a refused call changes nothing
 unfoldable pub latest : ℕ → List ℕ → List Line → List ℕ
 latest piston old [] = old
-latest piston old (l ∷ ls) = latest piston (if= l.number 0 (accepted piston old l.call) old) ls
+latest piston old (l ∷ ls) = latest piston (by_refusal l.refusal (λ k. old) (accepted piston old l.call)) ls
 
 -- ---- by the calls
 
@@ -47,10 +48,10 @@ bank_after bs bank (sets p kind body) = (set bs bank p kind body).bank
 bank_after bs bank (clears p) = (clear bs bank p).bank
 bank_after bs bank (recalls p) = bank
 
-abbrev pub answered : List ℕ → List ℕ → Call → ℕ
-answered bs bank (sets p kind body) = number (set bs bank p kind body).answer
-answered bs bank (clears p) = number (clear bs bank p).answer
-answered bs bank (recalls p) = (recall bs bank p).number
+abbrev pub answered : List ℕ → List ℕ → Call → Option Refusal
+answered bs bank (sets p kind body) = refused (set bs bank p kind body).answer
+answered bs bank (clears p) = refused (clear bs bank p).answer
+answered bs bank (recalls p) = (recall bs bank p).refusal
 
 -- ---- beside other users of the pool
 
@@ -73,7 +74,7 @@ pub record Inside (bs bank : List ℕ) (a : ℕ) (part : List ℕ) : Type 0 wher
   pub offset : ℕ
   pub unnamed : Unnamed bank offset
   pub long : ℕ
-  pub asked : ask bs offset ≡ Done long
+  pub asked : ask bs offset ≡ Ok long
   pub from : offset ≤ a
   pub to : a + length part ≤ offset + long
   pub bytes : Bytes part
@@ -108,7 +109,7 @@ noting l r = record { pool = r.pool; bank = r.bank; lines = l ∷ r.lines }
 unfoldable pub run : List ℕ → List ℕ → List Step → Ran
 run bs bank [] = record { pool = bs; bank = bank; lines = [] }
 run bs bank (calls c ∷ xs) =
-    noting (record { call = c; number = answered bs bank c }) (run (pool_after bs bank c) (bank_after bs bank c) xs)
+    noting (record { call = c; refusal = answered bs bank c }) (run (pool_after bs bank c) (bank_after bs bank c) xs)
 run bs bank (acts a ∷ xs) = run (acted bs a) bank xs
 
 -- each step is one that can be made, and every neighbour behaves well as things stand then
@@ -120,13 +121,13 @@ Behaves bs bank (acts a ∷ xs) = Behaved bs bank a × Behaves (acted bs a) bank
 -- the answers that a run beside well-behaved neighbours has: neither 1 nor 2, and no 12
 abbrev pub Fair : List Line → Type 0
 Fair [] = Unit {0}
-Fair (l ∷ ls) = ((l.number ≡ 0) ⊎ (l.number ≡ no_room) ⊎ (l.number ≡ no_piston) ⊎ (l.number ≡ no_record)) × Fair ls
+Fair (l ∷ ls) = ((l.refusal ≡ None) ⊎ (l.refusal ≡ Some NoRoom) ⊎ (l.refusal ≡ Some NoPiston) ⊎ (l.refusal ≡ Some NoRecord)) × Fair ls
 
 -- ---- what a run shows
 
--- each piston's recall answers 0 and shows what the list of calls and answers says
+-- each piston's recall is not refused and shows what the list of calls and answers says
 pub record Shows (r : Ran) : Type 0 where
-  pub accepted_recall : (piston : ℕ) → piston < 32 → (recall r.pool r.bank piston).number ≡ 0
+  pub accepted_recall : (piston : ℕ) → piston < 32 → (recall r.pool r.bank piston).refusal ≡ None
   pub latest_setting : (piston : ℕ) → piston < 32 → shown r.pool (recall r.pool r.bank piston) ≡ latest piston [] r.lines
   pub fair_answers : Fair r.lines
 

@@ -2,42 +2,41 @@
 ghost use Rattle.std.specs.Prelude.{◌≡◌};
 ghost use Rattle.bank.specs.Records.{body_of, kind_of};
 
-#[derive(Drop)]
+#[derive(Clone, Copy, Debug, PartialEq, Eq)]
 pub enum Kind {
     Eight,
     Sixteen,
     ThirtyTwo,
 }
 
-// What a byte of kind says.
-#[derive(Drop)]
-pub enum Known {
-    Is(Kind),
-    Unknown,
+// A byte that names no kind.
+#[derive(Clone, Copy, Debug, PartialEq, Eq)]
+pub struct UnknownKind(pub u8);
+
+impl TryFrom<u8> for Kind {
+    type Error = UnknownKind;
+
+    ghost try_from_gives = { λ number kind. kind ≡ kind_of number };
+
+    fn try_from(number: u8) -> Result<Kind, UnknownKind> {
+        match number {
+            1 => Ok(Kind::Eight),
+            2 => Ok(Kind::Sixteen),
+            3 => Ok(Kind::ThirtyTwo),
+            _ => Err(UnknownKind(number)),
+        }
+    }
 }
 
-pub fn kind_of(number: u8) -> Known
-    ensures { result ≡ kind_of number }
-{
-    if number == 1 {
-        return Known::Is(Kind::Eight);
-    }
-    if number == 2 {
-        return Known::Is(Kind::Sixteen);
-    }
-    if number == 3 {
-        return Known::Is(Kind::ThirtyTwo);
-    }
-    Known::Unknown
-}
-
-// How many bytes the body has.
-pub fn body_of(kind: Kind) -> u32
-    ensures { result ≡ body_of kind }
-{
-    match kind {
-        Kind::Eight => 8,
-        Kind::Sixteen => 16,
-        Kind::ThirtyTwo => 32,
+impl Kind {
+    // How many bytes the body has.
+    pub fn body(self) -> u32
+        ensures { result ≡ body_of self }
+    {
+        match self {
+            Kind::Eight => 8,
+            Kind::Sixteen => 16,
+            Kind::ThirtyTwo => 32,
+        }
     }
 }

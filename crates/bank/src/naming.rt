@@ -1,58 +1,36 @@
 // What every call of the bank asks first: of the pool, of the piston, and of all that the bank names.
-ghost use Rattle.std.specs.Prelude.{◌≡◌};
-ghost use Rattle.bank.specs.Asks.{Asks, ordering};
-ghost use Rattle.bank.specs.Calls as call;
+ghost use Rattle.std.specs.Prelude.{◌≡◌, None};
+ghost use Rattle.bank.specs.Asks.{Asks};
+ghost use Rattle.bank.specs.Calls.{past, refused};
 
-use paper::Answer;
+use paper::Refusal;
 
 pub const PISTONS: u32 = 32;
 
-// The bank's own refusals.
-pub const NO_PISTON: u8 = 10;
-
-pub const NO_RECORD: u8 = 11;
-
-pub const NOT_NAMED: u8 = 12;
-
-// 10 for a piston above 31, else what is asked after it.
-fn past(piston: u32, next: u8) -> u8
-    ensures { result ≡ call.past piston next }
+// Refused for a piston above 31.
+fn check(piston: u32) -> Result<(), Refusal>
+    ensures { refused result ≡ past piston None }
 {
     if piston < PISTONS {
-        return next;
+        return Ok(());
     }
-    NO_PISTON
+    Err(Refusal::NoPiston)
 }
 
-// 12 in its place: a piston above 31 is told first.
-fn ordered(piston: u32, why: u8) -> u8
-    ensures { result ≡ ordering piston why }
-{
-    if why == paper::NOT_HELD {
-        return past(piston, NOT_NAMED);
-    }
-    why
-}
-
-// What is asked of the pool for a call, at one reading: the first of 1, 2, 10 and 12 that refuses, 0 where none does; and the bytes of the
-// payload that the piston names, 0 where it is empty.
-#[derive(Drop)]
-pub struct Told {
-    pub why: u8,
-    pub long: u32,
-}
-
-pub fn asked(pool: &[u8], bank: &[u32; 32], piston: u32) -> Told
+// What is asked of the pool for a call, at one reading: the bytes of the payload that the piston names, 0 where it is empty; or the first of
+// 1, 2, 10 and 12 that refuses. A piston above 31 is told before a bank that names what is not held.
+pub fn asked(pool: &[u8], bank: &[u32; 32], piston: u32) -> Result<u32, Refusal>
     ensures { Asks pool.now bank.now piston result }
 {
     match pool::ask_all(pool, bank, piston) {
-        Answer::Done(long) => Told {
-            why: past(piston, 0),
-            long,
-        },
-        Answer::Refused(why) => Told {
-            why: ordered(piston, why),
-            long: 0,
-        },
+        Ok(long) => {
+            check(piston)?;
+            Ok(long)
+        }
+        Err(Refusal::NotHeld) => {
+            check(piston)?;
+            Err(Refusal::NotNamed)
+        }
+        Err(why) => Err(why),
     }
 }

@@ -1,51 +1,51 @@
 // A record: one byte of kind, then a body whose length the kind fixes.
 ghost use Rattle.std.specs.Prelude.{◌≡◌, ◌∷◌, length, suc};
-ghost use Rattle.bank.specs.Records.{is_record, record_in};
+ghost use Rattle.bank.specs.Calls.{no_record, refused};
+ghost use Rattle.bank.specs.Records.{record_in};
 
-use crate::kinds;
-use crate::kinds::Known;
+use crate::kinds::Kind;
+use paper::Refusal;
 
-// Whether a kind and a body make a record.
-pub fn is_record(kind: u8, body: &[u8]) -> bool
-    ensures { result ≡ is_record kind body.now }
+// Refused where a kind and a body make no record.
+pub fn check(kind: u8, body: &[u8]) -> Result<(), Refusal>
+    ensures { refused result ≡ no_record kind body.now }
 {
-    let Known::Is(k) = kinds::kind_of(kind) else {
-        return false;
+    let Ok(known) = Kind::try_from(kind) else {
+        return Err(Refusal::NoRecord);
     };
-    body.len() == kinds::body_of(k) as usize
+    if body.len() != known.body() as usize {
+        return Err(Refusal::NoRecord);
+    }
+    Ok(())
 }
 
-// How many bytes of the payload are its record; 0 where none reads.
-pub fn record_in(payload: &[u8]) -> u32
+// How many bytes of the payload are its record; nothing where none reads.
+pub fn record_in(payload: &[u8]) -> Option<u32>
     ensures { result ≡ record_in payload.now }
 {
-    if payload.len() == 0 {
-        return 0;
-    }
-    let Known::Is(k) = kinds::kind_of(payload[0]) else {
-        return 0;
+    let Some(&number) = payload.first() else {
+        return None;
     };
-    let size = 1 + kinds::body_of(k);
+    let Ok(kind) = Kind::try_from(number) else {
+        return None;
+    };
+    let size = 1 + kind.body();
     if payload.len() < size as usize {
-        return 0;
+        return None;
     }
-    size
+    Some(size)
 }
 
 // Puts the byte of kind, then the body, at the start of a part.
 pub fn write(part: &mut [u8], kind: u8, body: &[u8])
     ensures { length part.old ≡ suc (length body.now) → part.new ≡ kind ∷ body.now }
 {
-    if part.len() == 0 {
+    if part.len() != 1 + body.len() {
         return;
     }
     part[0] = kind;
-    let mut i = 0;
-    while i < body.len() {
-        if part.len() <= i + 1 {
-            return;
-        }
+    // Not copy_from_slice: it goes by raw memory, which tools/translating does not put into C.
+    for i in 0..body.len() {
         part[i + 1] = body[i];
-        i += 1;
     }
 }

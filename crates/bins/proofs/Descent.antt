@@ -46,17 +46,17 @@ module _ {old-bytes : List ℕ} {top-level top-before size old new : ℕ} {bs : 
   abbrev below : List ℕ → ℕ → ℕ → List ℕ
   below ds n k = rehead_by k ds (along ds n (found n before old size) size).before size old new
 
-  pub relinks-below : 1 < level → {cs : List ℕ} → length cs ≡ length bs → cs ≡ relink bs level before old new → {on : Bin}
+  pub relinks-below : 1 < level → {cs : List ℕ} → length cs ≡ length bs → {here : ℕ} → cs ≡ relink bs here before old new → here ≡ level → {on : Bin}
       → on ≡ along cs (level - 1) (found (level - 1) before old size) size → Reheading old-bytes top-level top-before size old new cs (level - 1) on.before
   unfolding rehead_by
-  relinks-below h {cs} l e {on} f =
+  relinks-below h {cs} l {here} e m {on} f =
       let k = level - 1 - 1 in
       let left : level - 1 ≡ suc k = omega arith in
-      let here : suc (suc k) ≡ level = omega arith in
+      let there : suc (suc k) ≡ here = omega (arith, m) in
       record {
         long = l ∙ R.long;
         same = R.same ∙ ap (λ (n : ℕ). rehead_by n bs before size old new) left
-            ∙ ap₂ (λ (m n : ℕ). below (relink bs m before old new) n k) here (sym left)
+            ∙ ap₂ (λ (m n : ℕ). below (relink bs m before old new) n k) there (sym left)
             ∙ ap (λ (ds : List ℕ). below ds (level - 1) k) (sym e)
             ∙ ap (λ (b : Bin). rehead_by k cs b.before size old new) (sym f);
       }

@@ -12,8 +12,8 @@ fn make_free(pool: &mut [u8], q: u32, size: u32)
 {
     let head = heads::free_head(size);
     let foot = words::minus(words::plus(q, size), 4);
-    words::put32(pool, q as usize, head);
-    words::put32(pool, foot as usize, head);
+    words::put(pool, q as usize, head);
+    words::put(pool, foot as usize, head);
 }
 
 // The block q becomes the second of the bin that `first` heads.

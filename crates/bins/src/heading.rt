@@ -1,4 +1,5 @@
 // A bin gets another first block, or loses its only one, or gets its first: on every level that it reaches, by one loop.
+// No Option for the blocks: bytes that are no pool may have a first block 0, which is to mean none as well (`after` in specs/Head.antt).
 ghost use Rattle.std.specs.Prelude.{◌≡◌};
 ghost use Rattle.bins.specs.Head.{after as after-of, relink as relink-of, rehead as rehead-of};
 
@@ -33,23 +34,16 @@ fn relink(pool: &mut [u8], level: u32, before: u32, old: u32, new: u32)
 pub fn rehead(pool: &mut [u8], bin: Bin, size: u32, old: u32, new: u32)
     ensures { pool.new ≡ rehead-of pool.old bin size old new }
 {
-    let mut level = bin.level;
     let mut before = bin.before;
-    while 1 < level {
-        relink(pool, level, before, old, new);
-        level -= 1;
-        let at = along(
-            pool,
+    for level in (1..bin.level).rev() {
+        relink(pool, level + 1, before, old, new);
+        let from = Bin {
             level,
-            Bin {
-                level,
-                before,
-                first: old,
-                size,
-            },
+            before,
+            first: old,
             size,
-        );
-        before = at.before;
+        };
+        before = along(pool, level, from, size).before;
     }
     relink(pool, 1, before, old, new);
 }

@@ -1,4 +1,4 @@
-// Words that are kept while others are stored, and put back.
+// Words that are kept while others are stored, and put back. Their offsets go on by 4 in the sum of 32 bits, which no range counts.
 ghost use Rattle.std.specs.Prelude.{◌≡◌, length};
 ghost use Rattle.bins.specs.Keep.{words_at, put_words};
 
@@ -6,11 +6,9 @@ ghost use Rattle.bins.specs.Keep.{words_at, put_words};
 pub fn keep(pool: &[u8], q: u32, offset: u32, kept: &mut [u32])
     ensures { kept.new ≡ words_at pool.now q offset (length kept.old) }
 {
-    let mut i: usize = 0;
     let mut at = offset;
-    while i < kept.len() {
-        kept[i] = words::field(pool, q, at);
-        i += 1;
+    for word in kept.iter_mut() {
+        *word = words::field(pool, q, at);
         at = words::plus(at, 4);
     }
 }
@@ -18,11 +16,9 @@ pub fn keep(pool: &[u8], q: u32, offset: u32, kept: &mut [u32])
 pub fn put_back(pool: &mut [u8], q: u32, offset: u32, kept: &[u32])
     ensures { pool.new ≡ put_words pool.old q offset kept.now }
 {
-    let mut i: usize = 0;
     let mut at = offset;
-    while i < kept.len() {
-        words::put_field(pool, q, at, kept[i]);
-        i += 1;
+    for word in kept {
+        words::put_field(pool, q, at, *word);
         at = words::plus(at, 4);
     }
 }

@@ -84,6 +84,7 @@ pub fn leave_both(pool: &mut [u8], below: u32, above: u32)
 {
     let height = levels::height(levels::top(pool), size_of(pool, above));
     let index = levels::word(height);
+    // Arrays with a part in use: there is no heap.
     let mut links: [u32; 3] = [0; 3];
     let mut index_words: [u32; 13] = [0; 13];
     keep(pool, above, PREVIOUS, &mut links);

@@ -9,6 +9,6 @@ mod heading;
 mod keeping;
 mod leaving;
 
-pub use chain::{Bin, empty, exact, find_on, linked, none, size, size_of};
+pub use chain::{Bin, empty, exact, find_on, linked, size_of};
 pub use entering::enter;
 pub use leaving::{leave, leave_both, take_out};

@@ -6,10 +6,11 @@ use Prim.Native.Nat.{ℕ}
 use native.Mathlib.Omega.{arith}
 use lib.ListN.{length, set}
 use Rattle.paper.specs.declared.Figures.{Figures}
-use Rattle.paper.specs.declared.Answer.TheVariants.{Done, Refused}
-use Rattle.paper.specs.Answers.{out, list_length, seven_of}
 use Rattle.words.specs.Choice.{if=-yes, if=-no}
 use Rattle.board.specs.Heard.{counted}
+use Rattle.std.specs.declared.result.Result.TheVariants.{Ok, Err}
+use Rattle.paper.specs.declared.Refusal.TheVariants.{ListLength}
+use Rattle.paper.specs.Answers.{out, seven_of}
 
 abbrev pub stored : Figures → List ℕ → List ℕ
 stored f xs =
@@ -32,10 +33,10 @@ seven-stored f (a ∷ b ∷ []) n = absurd (omega (arith, n))
 seven-stored f (a ∷ []) n = absurd (omega (arith, n))
 seven-stored f [] n = absurd (omega (arith, n))
 
-pub counted-stored : (f : Figures) (xs : List ℕ) → length xs ≡ 7 → counted f xs ≡ out (Done f.held_blocks) (stored f xs)
+pub counted-stored : (f : Figures) (xs : List ℕ) → length xs ≡ 7 → counted f xs ≡ out (Ok f.held_blocks) (stored f xs)
 unfolding counted
-counted-stored f xs n = if=-yes _ _ _ _ n ∙ ap (λ (s : List ℕ). out (Done f.held_blocks) s) (sym (seven-stored f xs n))
+counted-stored f xs n = if=-yes _ _ _ _ n ∙ ap (λ (s : List ℕ). out (Ok f.held_blocks) s) (sym (seven-stored f xs n))
 
-pub counted-refused : (f : Figures) (xs : List ℕ) → length xs ≢ 7 → counted f xs ≡ out (Refused list_length) xs
+pub counted-refused : (f : Figures) (xs : List ℕ) → length xs ≢ 7 → counted f xs ≡ out (Err ListLength) xs
 unfolding counted
 counted-refused f xs n = if=-no _ _ _ _ n

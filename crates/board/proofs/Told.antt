@@ -3,25 +3,24 @@ use mathlib.Core.Path.{◌≡◌, ap, sym, ◌∙◌}
 use mathlib.Core.List.{List}
 use Prim.Native.Nat.{ℕ, ◌*◌, ◌/◌, ◌%◌, ◌<◌}
 use native.Mathlib.Omega.{arith}
-use Rattle.paper.specs.declared.Answer.{Answer}
-use Rattle.paper.specs.declared.Answer.TheVariants.{Done, Refused}
-use Rattle.paper.specs.declared.Tally.{Tally}
-use Rattle.paper.specs.Answers.{Out, out}
 use Rattle.bank.specs.Calls.{After, after}
 use Rattle.pool.specs.Calls as call
 use Rattle.board.specs.Heard.{Halves, halves, heard, left, leaves, tallied, figures}
 use Rattle.board.specs.Pistons.{leaves_both, left_both}
+use Rattle.std.specs.declared.result.Result.TheVariants.{Ok, Err}
+use Rattle.paper.specs.Answers.{Answer, code, out, Out, Tally}
+use Rattle.paper.specs.declared.Refusal.{Refusal}
 
-pub done-halves : (v : ℕ) → v < 4294967296 → heard (Done v) ≡ halves v
+pub done-halves : (v : ℕ) → v < 4294967296 → heard (Ok v) ≡ halves v
 done-halves v h =
     let e : 0 ≡ v / 4294967296 = omega arith in
     let f : v ≡ v % 4294967296 = omega arith in
     λ i. record { upper = e i; lower = f i }
 
-pub refused-halves : (k : ℕ) → heard (Refused k) ≡ halves (4294967296 * k)
-refused-halves k =
-    let e : k ≡ 4294967296 * k / 4294967296 = omega arith in
-    let f : 0 ≡ 4294967296 * k % 4294967296 = omega arith in
+pub refused-halves : (k : Refusal) (n : ℕ) → n ≡ code k → heard (Err k) ≡ halves (4294967296 * n)
+refused-halves k n c =
+    let e : code k ≡ 4294967296 * n / 4294967296 = omega (arith, c) in
+    let f : 0 ≡ 4294967296 * n % 4294967296 = omega arith in
     λ i. record { upper = e i; lower = f i }
 
 -- what a call answers, told as one number

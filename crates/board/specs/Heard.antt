@@ -2,13 +2,11 @@
 -- in the lent buffer or list. The calls' meaning is the pool's own (crate pool, specs/Calls); only the list of seven figures is added here.
 use Rattle.std.specs.Prelude.{List, ℕ, ◌/◌, ◌%◌, length}
 use Rattle.words.specs.Choice.{if=}
-use Rattle.paper.specs.declared.Answer.{Answer}
-use Rattle.paper.specs.declared.Answer.TheVariants.{Done, Refused}
 use Rattle.paper.specs.declared.Figures.{Figures}
-use Rattle.paper.specs.declared.Tally.{Tally}
-use Rattle.paper.specs.declared.Tally.TheVariants.{Counted, Refused as Uncounted}
-use Rattle.paper.specs.Answers.{Out, out, number, seven_of, value, list_length}
 use Rattle.pool.specs.Calls as call
+use Rattle.std.specs.declared.result.Result.TheVariants.{Ok, Err}
+use Rattle.paper.specs.declared.Refusal.TheVariants.{ListLength}
+use Rattle.paper.specs.Answers.{Answer, number, out, Out, seven_of, Tally, value}
 
 -- ---- one number
 
@@ -40,11 +38,11 @@ leaves o = left (heard o.answer) o.after
 
 -- a list of another length is refused as the class count refuses one that has not 53 counters
 unfoldable pub counted : Figures → List ℕ → Out
-counted f xs = if= (length xs) 7 (out (Done f.held_blocks) (seven_of f)) (out (Refused list_length) xs)
+counted f xs = if= (length xs) 7 (out (Ok f.held_blocks) (seven_of f)) (out (Err ListLength) xs)
 
 abbrev pub tallied : Tally → List ℕ → Out
-tallied (Counted f) xs = counted f xs
-tallied (Uncounted k) xs = out (Refused k) xs
+tallied (Ok f) xs = counted f xs
+tallied (Err k) xs = out (Err k) xs
 
 unfoldable pub figures : List ℕ → List ℕ → Out
 figures bs xs = tallied (call.figures bs) xs

@@ -3,15 +3,15 @@ ghost use Rattle.std.specs.Prelude.{◌≡◌};
 ghost use Rattle.paper.specs.Answers.{out};
 ghost use Rattle.board.specs.Heard as board;
 
-use paper::{Answer, Figures, Tally};
+use paper::{Figures, Refusal};
 
 // The seven figures, in the paper's order; answers the first. Another list than one of seven numbers stays as it is, and is refused
 // by its length, as the class count refuses one that has not 53.
-fn counted(f: Figures, list: &mut [u32]) -> Answer
+fn counted(f: Figures, list: &mut [u32]) -> Result<u32, Refusal>
     ensures { board.counted f list.old ≡ out result list.new }
 {
     if list.len() != 7 {
-        return Answer::Refused(paper::LIST_LENGTH);
+        return Err(Refusal::ListLength);
     }
     list[0] = f.held_blocks;
     list[1] = f.held_bytes;
@@ -20,15 +20,12 @@ fn counted(f: Figures, list: &mut [u32]) -> Answer
     list[4] = f.remainder;
     list[5] = f.free_word;
     list[6] = f.largest;
-    Answer::Done(f.held_blocks)
+    Ok(f.held_blocks)
 }
 
-// A refused tally leaves the list as it is.
-pub fn tallied(t: Tally, list: &mut [u32]) -> Answer
+// Refused figures leave the list as it is.
+pub fn tallied(t: Result<Figures, Refusal>, list: &mut [u32]) -> Result<u32, Refusal>
     ensures { board.tallied t list.old ≡ out result list.new }
 {
-    match t {
-        Tally::Counted(f) => counted(f, list),
-        Tally::Refused(k) => Answer::Refused(k),
-    }
+    counted(t?, list)
 }

@@ -21,8 +21,6 @@ use Rattle.paper.proofs.reads.Stands.{Stands}
 use Rattle.paper.proofs.runs.HeldPlaces.{held_at}
 use Rattle.paper.proofs.sheet.Written.{length-write, write_keeps}
 use Rattle.paper.proofs.sheet.WrittenBytes.{write_bytes}
-use Rattle.paper.specs.declared.Answer.TheVariants.{Done}
-use Rattle.paper.specs.Answers.{Out, out}
 use Rattle.paper.specs.Blocks.{Block, State, block, free, held, remainder, total}
 use Rattle.paper.specs.Calls.{Reading, ReadsBy, broken, misfit, sound}
 use Rattle.paper.specs.Fresh.{layout_top}
@@ -42,6 +40,8 @@ use Rattle.bringing.specs.BringingIn.{bring_in}
 use Rattle.bringing.proofs.GoneBytes.{inside-remainder}
 use Rattle.bringing.proofs.Outcomes.{run-counted}
 use Rattle.bringing.proofs.Refused.{brought-in-else, refused-1, refused-2}
+use Rattle.std.specs.declared.result.Result.TheVariants.{Ok}
+use Rattle.paper.specs.Answers.{out, Out}
 
 -- ---- the state
 
@@ -82,12 +82,12 @@ module _ (bs : List ℕ) (bytes : Bytes bs) (S : OldSound bs) where
   abbrev after : List ℕ
   after = (bring_in bs).after
 
-  done : bring_in bs ≡ out (Done (free_first s.high)) (write (sheet (go_home s)) bs)
+  done : bring_in bs ≡ out (Ok (free_first s.high)) (write (sheet (go_home s)) bs)
   done = brought-in-else bs bytes S
 
   -- it answers how many blocks went home
-  pub answers-blocks : (bring_in bs).answer ≡ Done (length (free_run s.high))
-  answers-blocks = ap (λ (o : Out). o.answer) done ∙ ap Done (sym (run-counted s.high))
+  pub answers-blocks : (bring_in bs).answer ≡ Ok (length (free_run s.high))
+  answers-blocks = ap (λ (o : Out). o.answer) done ∙ ap Ok (sym (run-counted s.high))
 
   pub after_is : after ≡ write (sheet (go_home s)) bs
   after_is = ap (λ (o : Out). o.after) done
@@ -113,7 +113,7 @@ module _ (bs : List ℕ) (bytes : Bytes bs) (S : OldSound bs) where
   pub brought-in-state : (T : Sound after) → T.state ≡ go_home s
   brought-in-state T = sound-same (go_home s) after after-stands T
 
-  pub brought-in-accepted : inspect after ≡ Done (length after)
+  pub brought-in-accepted : inspect after ≡ Ok (length after)
   brought-in-accepted = accepted-sound-pools after after-bytes brought-in-sound
 
   pub same-level : level_word after ≡ level_word bs
@@ -157,15 +157,15 @@ none_first (block z free ∷ xs) h = absurd h
 none_first (block z remainder ∷ xs) h = absurd h
 
 -- a pool that is sound by the rule in force
-pub already-in : (bs : List ℕ) → Bytes bs → Sound bs → bring_in bs ≡ out (Done 0) bs
+pub already-in : (bs : List ℕ) → Bytes bs → Sound bs → bring_in bs ≡ out (Ok 0) bs
 unfolding Holds
 already-in bs bytes S =
     brought-in-else bs bytes (less bs S)
-    ∙ ap (λ (k : ℕ). out (Done k) (write (sheet (go_home S.state)) bs)) (none_first S.state.high S.edge)
-    ∙ ap (out (Done 0)) (ap (λ (t : State). write (sheet t) bs) (go_home-same S.state S.edge) ∙ S.holds)
+    ∙ ap (λ (k : ℕ). out (Ok k) (write (sheet (go_home S.state)) bs)) (none_first S.state.high S.edge)
+    ∙ ap (out (Ok 0)) (ap (λ (t : State). write (sheet t) bs) (go_home-same S.state S.edge) ∙ S.holds)
 
 -- brought in twice is brought in once
-pub again : (bs : List ℕ) → Bytes bs → OldSound bs → bring_in (bring_in bs).after ≡ out (Done 0) (bring_in bs).after
+pub again : (bs : List ℕ) → Bytes bs → OldSound bs → bring_in (bring_in bs).after ≡ out (Ok 0) (bring_in bs).after
 again bs bytes S = already-in (bring_in bs).after (after-bytes bs bytes S) (brought-in-sound bs bytes S)
 
 -- refused or not

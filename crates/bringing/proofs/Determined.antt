@@ -2,9 +2,8 @@
 use mathlib.Core.List.{List}
 use mathlib.Core.Path.{◌≡◌, ap, sym, ◌∙◌}
 use Prim.Native.Nat.{ℕ}
-use Rattle.paper.specs.declared.Answer.{Answer}
-use Rattle.paper.specs.Answers.{Out, out}
 use Rattle.bringing.specs.BringingIn.{bring_in}
+use Rattle.paper.specs.Answers.{Answer, out, Out}
 
 pub bring-in-determined : (bs : List ℕ) (r r' : Answer) (a a' : List ℕ) → bring_in bs ≡ out r a → bring_in bs ≡ out r' a' → (r ≡ r') × (a ≡ a')
 bring-in-determined bs r r' a a' e f =

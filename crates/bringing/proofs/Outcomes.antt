@@ -1,6 +1,5 @@
--- What the code does is what the call's definition says, for each way out: refused with the reading's number, or the free run at E gone home.
+-- What the code does is what the call's definition says, for each way out: refused as the reading says, or the free run at E gone home.
 use mathlib.Core.List.{List, [], ◌∷◌}
-use mathlib.Core.Logic.{◌≢◌}
 use mathlib.Core.Path.{◌∙◌, ◌≡◌, ap, refl, sym}
 use Prim.Native.Nat.{◌+◌, suc, ℕ}
 use native.Mathlib.Omega.{arith}
@@ -12,8 +11,6 @@ use Rattle.paper.proofs.home.GoneHome.{free-run-free, free-run-splits, free_run,
 use Rattle.paper.proofs.home.HomeFree.{go_home-free-sum}
 use Rattle.paper.proofs.reads.HeaderReads.{end_read}
 use Rattle.paper.proofs.reads.Stands.{OldStands}
-use Rattle.paper.specs.declared.Answer.TheVariants.{Done, Refused}
-use Rattle.paper.specs.Answers.{out}
 use Rattle.paper.specs.Blocks.{Block, State, block, blocks, free, free_sum, held, remainder}
 use Rattle.paper.specs.GoingHome.{free_first, go_home}
 use Rattle.paper.specs.Governed.{sheet}
@@ -21,8 +18,12 @@ use Rattle.paper.specs.Granting.{E}
 use Rattle.paper.specs.Layout.{end_at}
 use Rattle.paper.specs.Sheet.{write}
 use Rattle.reading.proofs.Asked.{old-refused, old-served}
-use Rattle.reading.specs.Read.{old_refusal}
+use Rattle.reading.specs.Read.{old_checked}
 use Rattle.words.specs.Words.{word_at}
+use Rattle.std.specs.declared.result.Result.TheVariants.{Ok, Err}
+use Rattle.std.specs.declared.result.Result.{Result}
+use Rattle.paper.specs.declared.Refusal.{Refusal}
+use Rattle.paper.specs.Answers.{out}
 
 -- the blocks of the free run are counted one by one
 pub run-counted : (xs : List Block) → length (free_run xs) ≡ free_first xs
@@ -59,17 +60,17 @@ module _ (s : State) (bs : List ℕ) (S : OldStands s bs) where
       (ap (λ (t : State). free_sum (blocks t)) (sym (go_home-edged s S.well_formed)) ∙ go_home-free-sum s)
       ∙ ap (λ (t : State). write (sheet t) bs) (sym (go_home-edged s S.well_formed))
 
-module _ (bs : List ℕ) {why : ℕ} (asked : why ≡ old_refusal bs) where
-  pub refused-with : why ≢ 0 → bring_in bs ≡ out (Refused why) bs
+module _ (bs : List ℕ) {r : Result (Unit {0}) Refusal} (asked : r ≡ old_checked bs) where
+  pub refused-with : {k : Refusal} → r ≡ Err k → bring_in bs ≡ out (Err k) bs
   unfolding bring_in
   refused-with n = old-refused bs asked _ _ n
 
-  pub done-with : why ≡ 0 → {e k : ℕ} {after : List ℕ} → e ≡ word_at 4 bs end_at → after ≡ homed bs e → k ≡ homes bs e
-      → bring_in bs ≡ out (Done k) after
+  pub done-with : {v : Unit {0}} → r ≡ Ok v → {e k : ℕ} {after : List ℕ} → e ≡ word_at 4 bs end_at → after ≡ homed bs e → k ≡ homes bs e
+      → bring_in bs ≡ out (Ok k) after
   unfolding bring_in
   done-with z {e} {k} {after} ee ea ek =
       old-served bs asked _ _ z
-      (λ s S B. λ i. out (Done (sym (count s S) i)) (sym (bytes s S) i))
+      (λ s S B. λ i. out (Ok (sym (count s S) i)) (sym (bytes s S) i))
     where
       count : (s : State) (S : OldStands s bs) → k ≡ free_first s.high
       count s S = ek ∙ ap (homes bs) ee ∙ home-count s bs S

@@ -6,16 +6,13 @@ ghost use Rattle.std.specs.Prelude.{◌≡◌};
 ghost use Rattle.paper.specs.Answers.{out};
 ghost use Rattle.bringing.specs.BringingIn as call;
 
-use paper::Answer;
+use paper::Refusal;
 
 // Answers how many blocks went home: 0 of a pool that is sound by the rule in force, and no byte of it changes.
-pub fn bring_in(pool: &mut [u8]) -> Answer
+pub fn bring_in(pool: &mut [u8]) -> Result<u32, Refusal>
     ensures { call.bring_in pool.old ≡ out result pool.new }
 {
-    let why = reading::old_refusal(pool);
-    if why != 0 {
-        return Answer::Refused(why);
-    }
-    let edge = words::get32(pool, paper::END);
-    Answer::Done(homing::go_home(pool, edge))
+    reading::check_by_old_rule(pool)?;
+    let edge = words::get::<u32>(pool, paper::END);
+    Ok(homing::go_home(pool, edge))
 }

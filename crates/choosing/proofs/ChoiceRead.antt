@@ -13,9 +13,9 @@ use Rattle.bins.proofs.Led.{Led, empty-none, exact-led, found-empty, found_none,
 use Rattle.bins.specs.Find.{empty, exact, find_on, none, size}
 use Rattle.bins.specs.declared.chain.Bin.{Bin}
 use Rattle.choosing.proofs.RestRead.{rest_read, rest_is}
-use Rattle.choosing.specs.Choosing.{choose_larger, high_end_choice, low_end_choice, choose as choose-model, choose_large as choose_large-model, choose_small as choose_small-model}
+use Rattle.choosing.specs.Choosing.{an_end, choose_larger, high_end_choice, low_end_choice, room, choose as choose-model, choose_large as choose_large-model, choose_small as choose_small-model}
 use Rattle.choosing.specs.declared.Choice.{Choice}
-use Rattle.choosing.specs.declared.Choice.TheVariants.{ExactBin, FirstOfBin, HighEnd, LargerBin, LowEnd, Refusal}
+use Rattle.choosing.specs.declared.Choice.TheVariants.{ExactBin, FirstOfBin, HighEnd, LargerBin, LowEnd}
 use Rattle.choosing.specs.declared.remainder.Rest.{Rest}
 use Rattle.heads.specs.Heads.{block_size}
 use Rattle.paper.proofs.bins.Smallest.{no-bin-past, smallest-found, smallest-none}
@@ -25,7 +25,6 @@ use Rattle.paper.proofs.reads.LooseReads.{height-pos}
 use Rattle.paper.proofs.reads.Stands.{Stands}
 use Rattle.paper.proofs.sheet.Fields.{height-le}
 use Rattle.paper.proofs.steps.EnterStep.{split-first}
-use Rattle.paper.specs.Answers.{no_room, no_size}
 use Rattle.paper.specs.Bins.{first}
 use Rattle.paper.specs.Blocks.{State}
 use Rattle.paper.specs.Governed.{height}
@@ -34,34 +33,38 @@ use Rattle.paper.specs.Layout.{large, small_bins}
 use Rattle.words.specs.Choice.{by<, by=, if<, if<-no, if<-yes, if=, if=-no, if=-yes, when, when-no, when-yes}
 use Rattle.words.specs.Sums.{plus}
 use Rattle.words.specs.Words.{word_at}
+use Rattle.std.specs.declared.result.Result.{Result}
+use Rattle.std.specs.declared.result.Result.TheVariants.{Ok, Err}
+use Rattle.paper.specs.declared.Refusal.{Refusal}
+use Rattle.paper.specs.declared.Refusal.TheVariants.{NoRoom, NoSize}
 
 -- as the paper says it
-abbrev pub said : Choice → PaperChoice
-said (FirstOfBin q b) = first_of_bin b
-said (HighEnd rest b) = high_end b
-said (ExactBin bin b) = exact_bin b
-said (LargerBin bin b) = larger_bin (size bin) b
-said (LowEnd rest b) = low_end b
-said (Refusal k) = refusal k
+abbrev pub said : Result Choice Refusal → PaperChoice
+said (Ok (FirstOfBin q b)) = first_of_bin b
+said (Ok (HighEnd rest b)) = high_end b
+said (Ok (ExactBin bin b)) = exact_bin b
+said (Ok (LargerBin bin b)) = larger_bin (size bin) b
+said (Ok (LowEnd rest b)) = low_end b
+said (Err k) = refusal k
 
 -- what it carries, in the state that it was chosen for
-abbrev pub Carries : State → Choice → Type 0
-Carries s (FirstOfBin q b) = (8 ≤ b) × (b % 8 ≡ 0) × (b < large) × (l : List ℕ) × (s.bins b ≡ q ∷ l)
-Carries s (HighEnd rest b) = (8 ≤ b) × (b % 8 ≡ 0) × (b < large) × (rest ≡ rest_is s) × (b + 8 ≤ s.rest)
-Carries s (ExactBin bin b) = (b % 8 ≡ 0) × (large ≤ b) × Led s b bin
-Carries s (LargerBin bin b) = (b % 8 ≡ 0) × (large ≤ b) × (b + large ≤ size bin) × Led s (size bin) bin
-Carries s (LowEnd rest b) = (b % 8 ≡ 0) × (large ≤ b) × (rest ≡ rest_is s) × (b + 8 ≤ s.rest)
-Carries s (Refusal k) = Unit {0}
+abbrev pub Carries : State → Result Choice Refusal → Type 0
+Carries s (Ok (FirstOfBin q b)) = (8 ≤ b) × (b % 8 ≡ 0) × (b < large) × (l : List ℕ) × (s.bins b ≡ q ∷ l)
+Carries s (Ok (HighEnd rest b)) = (8 ≤ b) × (b % 8 ≡ 0) × (b < large) × (rest ≡ rest_is s) × (b + 8 ≤ s.rest)
+Carries s (Ok (ExactBin bin b)) = (b % 8 ≡ 0) × (large ≤ b) × Led s b bin
+Carries s (Ok (LargerBin bin b)) = (b % 8 ≡ 0) × (large ≤ b) × (b + large ≤ size bin) × Led s (size bin) bin
+Carries s (Ok (LowEnd rest b)) = (b % 8 ≡ 0) × (large ≤ b) × (rest ≡ rest_is s) × (b + 8 ≤ s.rest)
+Carries s (Err k) = Unit {0}
 
-pub record Reads (s : State) (c : Choice) (d : PaperChoice) : Type 0 where
+pub record Reads (s : State) (c : Result Choice Refusal) (d : PaperChoice) : Type 0 where
   pub says : said c ≡ d
   pub carries : Carries s c
 
-refusal-reads : (s : State) (k : ℕ) → Reads s (Refusal k) (refusal k)
+refusal-reads : (s : State) (k : Refusal) → Reads s (Err k) (refusal k)
 refusal-reads s k = record { says = refl; carries = tt }
 
-reads-by : (s : State) (c c' : Choice) (d d' : PaperChoice) → c ≡ c' → d ≡ d' → Reads s c' d' → Reads s c d
-reads-by s c c' d d' p q r = subst (λ (k : Choice). Reads s k d) (sym p) (subst (Reads s c') (sym q) r)
+reads-by : (s : State) (c c' : Result Choice Refusal) (d d' : PaperChoice) → c ≡ c' → d ≡ d' → Reads s c' d' → Reads s c d
+reads-by s c c' d d' p q r = subst (λ (k : Result Choice Refusal). Reads s k d) (sym p) (subst (Reads s c') (sym q) r)
 
 -- by a flag
 by_flag : {A : Type 0} (t : Bool) → (t ≡ true → A) → (t ≡ false → A) → A
@@ -70,22 +73,23 @@ by_flag false f g = g refl
 
 module _ (s : State) (bs : List ℕ) (S : Stands s bs) (b : ℕ) (eights : b % 8 ≡ 0) where
   -- an end of the remainder
-  end_reads : (end : Rest → Choice) (d : PaperChoice) → (b + 8 ≤ s.rest → Reads s (end (rest_is s)) d)
-      → (rest : Rest) → rest ≡ rest_is s → Reads s (if< rest.size (b + 8) (Refusal no_room) (end rest)) (if_room s b d)
-  end_reads end d f rest e =
-      subst (λ (r : Rest). Reads s (if< r.size (b + 8) (Refusal no_room) (end r)) (if_room s b d)) (sym e)
+  end_reads : (end : Rest → Choice) (d : PaperChoice) → (b + 8 ≤ s.rest → Reads s (Ok (end (rest_is s))) d)
+      → Reads s (an_end end (room bs b)) (if_room s b d)
+  unfolding room
+  end_reads end d f =
+      subst (λ (r : Rest). Reads s (an_end end (if< r.size (b + 8) (Err NoRoom) (Ok r))) (if_room s b d)) (sym (rest_read s bs S))
       (by< s.rest (b + 8)
-      (λ l. reads-by s _ (Refusal no_room) _ (refusal no_room) (if<-yes s.rest (b + 8) _ _ l) (if<-yes s.rest (b + 8) _ _ l) (refusal-reads s no_room))
-      (λ l. reads-by s _ (end (rest_is s)) _ d (if<-no s.rest (b + 8) _ _ l) (if<-no s.rest (b + 8) _ _ l) (f l)))
+      (λ l. reads-by s _ (Err NoRoom) _ (refusal NoRoom) (ap (an_end end) (if<-yes s.rest (b + 8) _ _ l)) (if<-yes s.rest (b + 8) _ _ l) (refusal-reads s NoRoom))
+      (λ l. reads-by s _ (Ok (end (rest_is s))) _ d (ap (an_end end) (if<-no s.rest (b + 8) _ _ l)) (if<-no s.rest (b + 8) _ _ l) (f l)))
 
   -- ---- small
   module _ (least : 8 ≤ b) (small : b < large) where
     high-reads : Reads s (high_end_choice bs b) (if_room s b (high_end b))
     unfolding high_end_choice
     high-reads =
-        end_reads (λ r. HighEnd r b) (high_end b) (λ l. record { says = refl; carries = (least, eights, small, refl, l) }) _ (rest_read s bs S)
+        end_reads (λ r. HighEnd r b) (high_end b) (λ l. record { says = refl; carries = (least, eights, small, refl, l) })
 
-    small_at : (q : ℕ) → q ≡ first (s.bins b) → Reads s (if= q 0 (high_end_choice bs b) (FirstOfBin q b)) (choose_small s b)
+    small_at : (q : ℕ) → q ≡ first (s.bins b) → Reads s (if= q 0 (high_end_choice bs b) (Ok (FirstOfBin q b))) (choose_small s b)
     unfolding choose_small
     small_at q e =
         by= q 0
@@ -105,12 +109,12 @@ module _ (s : State) (bs : List ℕ) (S : Stands s bs) (b : ℕ) (eights : b % 8
     low_reads : Reads s (low_end_choice bs b) (if_room s b (low_end b))
     unfolding low_end_choice
     low_reads =
-        end_reads (λ r. LowEnd r b) (low_end b) (λ l. record { says = refl; carries = (eights, b-large, refl, l) }) _ (rest_read s bs S)
+        end_reads (λ r. LowEnd r b) (low_end b) (λ l. record { says = refl; carries = (eights, b-large, refl, l) })
 
     abbrev larger-way : PaperChoice
     larger-way = if= (smallest_bin s (b + large)) 0 (if_room s b (low_end b)) (larger_bin (smallest_bin s (b + large)) b)
 
-    larger-at : (bin : Bin) → Found s 1 (b + large) 0 bin → Reads s (when (none bin) (low_end_choice bs b) (LargerBin bin b)) larger-way
+    larger-at : (bin : Bin) → Found s 1 (b + large) 0 bin → Reads s (when (none bin) (low_end_choice bs b) (Ok (LargerBin bin b))) larger-way
     larger-at bin F =
         let z : size bin ≡ smallest_bin s (b + large) = found-size s B.loose 1 (b + large) (omega arith) bin F refl in
         by_flag (none bin)
@@ -128,11 +132,11 @@ module _ (s : State) (bs : List ℕ) (S : Stands s bs) (b : ℕ) (eights : b % 8
     unfolding choose_larger
     larger-reads at F =
         let p : plus b large ≡ b + large = omega arith in
-        subst (λ (k : ℕ). Reads s (when (none (find_on bs at k)) (low_end_choice bs b) (LargerBin (find_on bs at k) b)) larger-way) (sym p)
+        subst (λ (k : ℕ). Reads s (when (none (find_on bs at k)) (low_end_choice bs b) (Ok (LargerBin (find_on bs at k) b))) larger-way) (sym p)
         (larger-at (find_on bs at (b + large))
         (find-on-found s B.loose bs (between-index s bs B) (height s.top b) b (b + large) at (height-pos s B.loose b) (height-le s.top b) F (omega arith)))
 
-    large-at : (at : Bin) → Found s (height s.top b) b 0 at → Reads s (if= (size at) b (ExactBin at b) (choose_larger bs at b)) (choose_large s b)
+    large-at : (at : Bin) → Found s (height s.top b) b 0 at → Reads s (if= (size at) b (Ok (ExactBin at b)) (choose_larger bs at b)) (choose_large s b)
     unfolding choose_large size
     large-at at F =
         by= at.size b
@@ -164,7 +168,7 @@ module _ (s : State) (bs : List ℕ) (S : Stands s bs) where
   no-bin : (z : ℕ) → 65536 < z → first (s.bins z) ≡ 0
   no-bin z l = no-bin-past s (stands-between s bs S).loose z (omega (arith, S.well_formed.fits))
 
-  too_large : (b : ℕ) → 65536 < b → choose_large s b ≡ refusal no_room
+  too_large : (b : ℕ) → 65536 < b → choose_large s b ≡ refusal NoRoom
   unfolding choose_large
   too_large b l =
       if=-yes (first (s.bins b)) 0 _ _ (no-bin b l)
@@ -178,10 +182,10 @@ module _ (s : State) (bs : List ℕ) (S : Stands s bs) where
       let least = block_size-least payload in
       let eights = block_size-eights payload in
       by= payload 0
-      (λ e. reads-by s _ _ _ _ (if=-yes payload 0 _ _ e) (if=-yes payload 0 _ _ e) (refusal-reads s no_size))
+      (λ e. reads-by s _ _ _ _ (if=-yes payload 0 _ _ e) (if=-yes payload 0 _ _ e) (refusal-reads s NoSize))
       (λ n. by< 65536 b
       (λ l. reads-by s _ _ _ _ (if=-no payload 0 _ _ n ∙ if<-yes 65536 b _ _ l)
-      (if=-no payload 0 _ _ n ∙ if<-no b large _ _ (omega arith) ∙ too_large b l) (refusal-reads s no_room))
+      (if=-no payload 0 _ _ n ∙ if<-no b large _ _ (omega arith) ∙ too_large b l) (refusal-reads s NoRoom))
       (λ l. by< b large
       (λ m. reads-by s _ _ _ _ (if=-no payload 0 _ _ n ∙ if<-no 65536 b _ _ l ∙ if<-yes b large _ _ m)
       (if=-no payload 0 _ _ n ∙ if<-yes b large _ _ m) (small-reads s bs S b eights least m))

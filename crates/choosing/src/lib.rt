@@ -1,20 +1,20 @@
-// Where a block for a payload would come from: asked before anything is stored, and storing nothing.
+// Where a block for a payload would come from, or why there is none: asked before anything is stored, and storing nothing.
 // Total, and with no inspection of its own: the pool's calls inspect first.
 #![tactic(auto)]
 
 mod remainder;
 
 ghost use Rattle.std.specs.Prelude.{◌≡◌};
-ghost use Rattle.choosing.specs.Choosing.{high_end_choice, low_end_choice, choose_small, choose_larger, choose_large, choose as choose-of};
+ghost use Rattle.choosing.specs.Choosing.{room as room_of, choose_small, choose_larger, choose_large, choose as choose-of};
 
 use bins::Bin;
-use paper::SMALL_BINS;
+use paper::{Refusal, SMALL_BINS};
 pub use remainder::Rest;
 use remainder::remainder;
 
 // One case for each clause of the rule. Each carries what carrying it out needs, and last the size of the block, so nothing is looked
 // for twice: the first block of a small bin; the remainder, for its high end; a bin of exactly that size; a larger one, for the
-// low end of a block; the remainder, for its low end; the number of a refusal.
+// low end of a block; the remainder, for its low end.
 #[derive(Clone, Copy)]
 pub enum Choice {
     FirstOfBin(u32, u32),
@@ -22,76 +22,64 @@ pub enum Choice {
     ExactBin(Bin, u32),
     LargerBin(Bin, u32),
     LowEnd(Rest, u32),
-    Refusal(u8),
 }
 
-// The remainder's high end, if 8 bytes are left.
-fn high_end(pool: &[u8], b: u32) -> Choice
-    ensures { result ≡ high_end_choice pool.now b }
+// The remainder, if 8 bytes are left of it.
+fn room(pool: &[u8], b: u32) -> Result<Rest, Refusal>
+    ensures { result ≡ room_of pool.now b }
 {
     let rest = remainder(pool);
     if (rest.size as u64) < b as u64 + 8 {
-        return Choice::Refusal(paper::NO_ROOM);
+        return Err(Refusal::NoRoom);
     }
-    Choice::HighEnd(rest, b)
+    Ok(rest)
 }
 
-// The remainder's low end, if 8 bytes are left.
-fn low_end(pool: &[u8], b: u32) -> Choice
-    ensures { result ≡ low_end_choice pool.now b }
-{
-    let rest = remainder(pool);
-    if (rest.size as u64) < b as u64 + 8 {
-        return Choice::Refusal(paper::NO_ROOM);
-    }
-    Choice::LowEnd(rest, b)
-}
-
-fn choose_small(pool: &[u8], b: u32) -> Choice
+fn choose_small(pool: &[u8], b: u32) -> Result<Choice, Refusal>
     ensures { result ≡ choose_small pool.now b }
 {
     let first = words::field(pool, SMALL_BINS, b);
     if first == 0 {
-        return high_end(pool, b);
+        return Ok(Choice::HighEnd(room(pool, b)?, b));
     }
-    Choice::FirstOfBin(first, b)
+    Ok(Choice::FirstOfBin(first, b))
 }
 
 // `exact` is not of exactly b: the smallest bin of at least b + 72, else the remainder.
-fn choose_larger(pool: &[u8], exact: Bin, b: u32) -> Choice
+fn choose_larger(pool: &[u8], exact: Bin, b: u32) -> Result<Choice, Refusal>
     ensures { result ≡ choose_larger pool.now exact b }
 {
     let larger = bins::find_on(pool, exact, words::plus(b, paper::LARGE));
-    if bins::none(larger) {
-        return low_end(pool, b);
+    if larger.is_none() {
+        return Ok(Choice::LowEnd(room(pool, b)?, b));
     }
-    Choice::LargerBin(larger, b)
+    Ok(Choice::LargerBin(larger, b))
 }
 
 // The bin of exactly b, or a larger one. Where there is no bin at all, the remainder.
-fn choose_large(pool: &[u8], b: u32) -> Choice
+fn choose_large(pool: &[u8], b: u32) -> Result<Choice, Refusal>
     ensures { result ≡ choose_large pool.now b }
 {
     if bins::empty(pool) {
-        return low_end(pool, b);
+        return Ok(Choice::LowEnd(room(pool, b)?, b));
     }
     let exact = bins::exact(pool, b);
-    if bins::size(exact) == b {
-        return Choice::ExactBin(exact, b);
+    if exact.size() == b {
+        return Ok(Choice::ExactBin(exact, b));
     }
     choose_larger(pool, exact, b)
 }
 
 // For a payload of s bytes.
-pub fn choose(pool: &[u8], s: u32) -> Choice
+pub fn choose(pool: &[u8], s: u32) -> Result<Choice, Refusal>
     ensures { result ≡ choose-of pool.now s }
 {
     if s == 0 {
-        return Choice::Refusal(paper::NO_SIZE);
+        return Err(Refusal::NoSize);
     }
     let b = heads::block_size(s);
     if 65536 < b {
-        return Choice::Refusal(paper::NO_ROOM);
+        return Err(Refusal::NoRoom);
     }
     if b < paper::LARGE as u64 {
         return choose_small(pool, b as u32);

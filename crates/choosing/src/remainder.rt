@@ -12,8 +12,8 @@ pub struct Rest {
 pub fn remainder(pool: &[u8]) -> Rest
     ensures { result ≡ remainder_of pool.now }
 {
-    let start = words::get32(pool, paper::START);
-    let end = words::get32(pool, paper::END);
+    let start = words::get::<u32>(pool, paper::START);
+    let end = words::get::<u32>(pool, paper::END);
     Rest {
         start,
         end,

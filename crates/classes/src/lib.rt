@@ -4,7 +4,7 @@
 ghost use Rattle.std.specs.Prelude.{◌≡◌};
 ghost use Rattle.classes.specs.Class.{class_of};
 
-// How many classes there are, and the answer where no class holds the payload.
+// How many classes there are, and the answer where no class holds the payload: a number and no Option, since the contract is the paper's `class_of`.
 pub const CLASSES: u32 = 53;
 
 // The size of the first class.
@@ -26,7 +26,7 @@ pub fn class_of(payload: u32) -> u32
         return CLASSES;
     }
     let less_one = payload - 1;
-    let place = 29 - u32::leading_zeros(less_one); // of 32 bits, without the three and the zeros above them
+    let place = 29 - less_one.leading_zeros(); // of 32 bits, without the three and the zeros above them
     let top = less_one >> place;
     4 * place + top - 7
 }

@@ -17,9 +17,6 @@ use Rattle.paper.proofs.reads.Stands.{Stands}
 use Rattle.paper.proofs.runs.HeldPlaces.{held_at}
 use Rattle.paper.proofs.sheet.Written.{length-write}
 use Rattle.paper.proofs.sheet.WrittenBytes.{write_bytes}
-use Rattle.paper.specs.declared.Answer.TheVariants.{Done}
-use Rattle.paper.specs.declared.Tally.TheVariants.{Counted}
-use Rattle.paper.specs.Answers.{Out, list_length, number, out}
 use Rattle.paper.specs.Blocks.{State, blocks, with_top}
 use Rattle.paper.specs.Calls.{Reading, Reads, sound, ask_call, class_count as class_count_of, class_count_call, figures_call, give_back_call, take_call, unchanged}
 use Rattle.paper.specs.Counting.{class_counters, counters_from, held_one, in_class}
@@ -36,8 +33,11 @@ use Rattle.pool.proofs.Demand3.{accepted-is-honest, accepted-sound-pools}
 use Rattle.pool.proofs.Holding.{Held, HeldBy, by-held, held_by, payload_of, read_is}
 use Rattle.pool.specs.Calls.{ask, class_count, figures, give_back, inspect, take}
 use Rattle.reading.specs.Read.{read}
-use Rattle.convert.specs.Converting.{convert, other, refusal, relaid}
+use Rattle.convert.specs.Converting.{convert, other, checked, said, relaid}
 use Rattle.convert.proofs.Outcomes.{Served, other-top, served}
+use Rattle.std.specs.declared.result.Result.TheVariants.{Ok}
+use Rattle.paper.specs.declared.Refusal.TheVariants.{ListLength}
+use Rattle.paper.specs.Answers.{Answer, out, Out}
 
 other-named : (old : ℕ) → (other old ≡ 1) ⊎ (other old ≡ 2)
 unfolding other
@@ -50,13 +50,13 @@ counters-any t s zero k = refl
 counters-any t s (suc c) k = ap (λ (l : List ℕ). sum_of (in_class k) (blocks s) ∷ l) (counters-any t s c (k + 1))
 
 -- an accepted conversion, of bytes
-module _ (bs : List ℕ) (bytes : Bytes bs) (old v : ℕ) (done : (convert bs old).answer ≡ Done v) where
+module _ (bs : List ℕ) (bytes : Bytes bs) (old v : ℕ) (done : (convert bs old).answer ≡ Ok v) where
   abbrev after : List ℕ
   after = (convert bs old).after
 
   pub was-served : Served bs old
-  unfolding refusal
-  was-served = served bs old (ap number done)
+  unfolding checked
+  was-served = served bs old (ap said done)
 
   pub after_is : after ≡ write (sheet (relaid was-served.state old)) bs
   after_is = ap (λ (o : Out). o.after) was-served.by-paper
@@ -65,7 +65,7 @@ module _ (bs : List ℕ) (bytes : Bytes bs) (old v : ℕ) (done : (convert bs ol
   pub answers-n : v ≡ length bs
   answers-n = value_same (sym done ∙ ap (λ (o : Out). o.answer) was-served.by-paper)
     where
-      value_same : Done v ≡ Done (length bs) → v ≡ length bs
+      value_same : ◌≡◌ {A = Answer} (Ok v) (Ok (length bs)) → v ≡ length bs
       value_same e = cc
 
   pub as_long : length after ≡ length bs
@@ -88,7 +88,7 @@ module _ (bs : List ℕ) (bytes : Bytes bs) (old v : ℕ) (done : (convert bs ol
   pub converted-sound : Sound after
   converted-sound = (stands-sound (relaid was-served.state old) after after-stands).0
 
-  pub converted-accepted : inspect after ≡ Done (length after)
+  pub converted-accepted : inspect after ≡ Ok (length after)
   converted-accepted = accepted-sound-pools after after-bytes converted-sound
 
   pub converted-layout : level_word after ≡ layout_top (other old)
@@ -138,13 +138,13 @@ module _ (bs : List ℕ) (bytes : Bytes bs) (old v : ℕ) (done : (convert bs ol
   pub same-figures : figures after ≡ figures bs
   unfolding figures
   same-figures =
-      ap figures_call read-after ∙ ap Counted (figures-any (layout_top (other old)) was-served.state) ∙ sym (ap figures_call was-served.reading)
+      ap figures_call read-after ∙ ap Ok (figures-any (layout_top (other old)) was-served.state) ∙ sym (ap figures_call was-served.reading)
 
   pub same-classes : (cs : List ℕ) → class_count after cs ≡ class_count bs cs
   unfolding class_count class_count_of class_counters
   same-classes cs =
       ap (λ (x : Reading). class_count_call x cs) read-after
-      ∙ ap (λ (l : List ℕ). if= (length cs) 53 (out (Done (sum_of held_one (blocks was-served.state))) l) (unchanged cs list_length))
+      ∙ ap (λ (l : List ℕ). if= (length cs) 53 (out (Ok (sum_of held_one (blocks was-served.state))) l) (unchanged cs ListLength))
       (counters-any (layout_top (other old)) was-served.state 53 0)
       ∙ sym (ap (λ (x : Reading). class_count_call x cs) was-served.reading)
 

@@ -2,9 +2,8 @@
 use mathlib.Core.List.{List}
 use mathlib.Core.Path.{◌≡◌, ap, sym, ◌∙◌}
 use Prim.Native.Nat.{ℕ}
-use Rattle.paper.specs.declared.Answer.{Answer}
-use Rattle.paper.specs.Answers.{Out, out}
 use Rattle.convert.specs.Converting.{convert}
+use Rattle.paper.specs.Answers.{Answer, out, Out}
 
 pub convert-determined : (bs : List ℕ) (old : ℕ) (r r' : Answer) (a a' : List ℕ) → convert bs old ≡ out r a → convert bs old ≡ out r' a'
     → (r ≡ r') × (a ≡ a')

@@ -1,4 +1,4 @@
--- What the call does with the numbers that it asks, in their order: each way out is the definition's. The pool's level word is the height that was read.
+-- What the call does with what it asks, in its order: each way out is the definition's. The pool's level word is the height that was read.
 use mathlib.Core.List.{List}
 use mathlib.Core.Logic.{◌≢◌, ◌⊎◌, inl, inr}
 use mathlib.Core.Path.{◌≡◌, refl, sym, ap, ◌∙◌}
@@ -13,21 +13,25 @@ use Rattle.bins.proofs.LinkRead.{top_read}
 use Rattle.levels.specs.Levels.{top_of}
 use Rattle.paper.proofs.reads.Standing.{stands-allowed}
 use Rattle.paper.proofs.reads.Stands.{Stands}
-use Rattle.paper.specs.declared.Answer.TheVariants.{Done, Refused}
-use Rattle.paper.specs.Allowed.{Allowed}
-use Rattle.paper.specs.Answers.{Out, out, number, no_layout, not_allowed, not_sound}
+use mathlib.Core.Bool.{false, true}
+use Rattle.paper.proofs.reads.Allowed.{allowed-yes}
+use Rattle.paper.specs.Allowed.{Allowed, allowed}
 use Rattle.paper.specs.Blocks.{State}
-use Rattle.paper.specs.Calls.{Reading, misfit, broken, sound, by_reading, unchanged}
+use Rattle.paper.specs.Calls.{Reading, Reads, misfit, broken, sound}
 use Rattle.paper.specs.Fresh.{layout_top}
 use Rattle.paper.specs.Governed.{sheet}
 use Rattle.paper.specs.Sheet.{write}
-use Rattle.reading.specs.Read.{read, refusal as read_number}
+use Rattle.reading.specs.Read.{read, checked as read_checked, said as read_said}
+use Rattle.reading.proofs.Readings.{reads}
+use Rattle.convert.proofs.Refused.{refused-changes-nothing}
+use Rattle.words.specs.Words.{Bytes}
 use Rattle.reading.proofs.Asked.{read-sound}
-use Rattle.convert.specs.Converting.{convert, convert_call, moves, other, other_layout, refusal, relaid}
-
--- the number of what was read, 0 of a sound pool
-abbrev asked : Reading → ℕ
-asked x = by_reading x (λ k. k) (λ s. 0)
+use Rattle.convert.specs.Converting.{checked, convert, convert_call, moves, other, relaid, said}
+use Rattle.std.specs.declared.result.Result.TheVariants.{Ok, Err}
+use Rattle.std.specs.declared.result.Result.{Result}
+use Rattle.paper.specs.declared.Refusal.{Refusal}
+use Rattle.paper.specs.declared.Refusal.TheVariants.{NoLayout, NotAllowed, NotSound, OtherLayout}
+use Rattle.paper.specs.Answers.{Answer, out, Out}
 
 -- of either layout the other one is 1 or 13 high
 pub other-top : (old : ℕ) → (layout_top (other old) ≡ 1) ⊎ (layout_top (other old) ≡ 13)
@@ -39,98 +43,84 @@ module _ (bs : List ℕ) (old : ℕ) where
   abbrev outcome : Reading → Out
   outcome x = convert_call x bs old
 
-  abbrev told : Reading → ℕ
-  told x = number (outcome x).answer
+  abbrev told : Reading → Result (Unit {0}) Refusal
+  told x = said (outcome x).answer
 
-  -- ---- 1, 8, 2
+  same : {x y : Out} → x ≡ y → said x.answer ≡ said y.answer
+  same e = ap (λ (o : Out). said o.answer) e
 
-  by_length : (x : Reading) → asked x ≡ not_allowed → not_allowed ≡ told x
-  by_length misfit e = refl
-  by_length broken e = absurd (omega arith)
-  by_length (sound s) e = absurd (omega arith)
+  -- ---- the five ways out of `check`
 
-  by_name : (x : Reading) → asked x ≢ not_allowed → layout_top old ≡ 0 → no_layout ≡ told x
-  by_name misfit n z = absurd (n refl)
-  by_name broken n z = sym (ap (λ (o : Out). number o.answer) (if=-yes (layout_top old) 0 _ _ z))
-  by_name (sound s) n z = sym (ap (λ (o : Out). number o.answer) (if=-yes (layout_top old) 0 _ _ z))
+  module _ (bytes : Bytes bs) where
+    pub refused-length : allowed (length bs) ≡ false → Err NotAllowed ≡ checked bs old
+    unfolding checked convert
+    refused-length f = go (read bs) (reads bs bytes)
+      where
+        n : Allowed (length bs) → ⊥
+        n a = let e : false ≡ true = sym f ∙ allowed-yes (length bs) a in let z : ◌≡◌ {A = ℕ} 0 1 = cc in omega arith
 
-  by-reading : (x : Reading) → asked x ≢ not_allowed → layout_top old ≢ 0 → asked x ≢ 0 → not_sound ≡ told x
-  by-reading misfit n z m = absurd (n refl)
-  by-reading broken n z m = sym (ap (λ (o : Out). number o.answer) (if=-no (layout_top old) 0 _ _ z))
-  by-reading (sound s) n z m = absurd (m refl)
+        go : (x : Reading) → Reads bs x → Err NotAllowed ≡ told x
+        go misfit k = refl
+        go broken k = absurd (n k.0)
+        go (sound s) k = absurd (n k.0.length_allowed)
 
-  -- ---- 13, or none
+    pub refused-name : Allowed (length bs) → layout_top old ≡ 0 → Err NoLayout ≡ checked bs old
+    unfolding checked convert
+    refused-name a z = go (read bs) (reads bs bytes)
+      where
+        go : (x : Reading) → Reads bs x → Err NoLayout ≡ told x
+        go misfit k = absurd (k a)
+        go broken k = sym (same (if=-yes (layout_top old) 0 _ _ z))
+        go (sound s) k = sym (same (if=-yes (layout_top old) 0 _ _ z))
 
-  by_layout : (x : Reading) → read bs ≡ x → asked x ≡ 0 → layout_top old ≢ 0 → top_of bs ≢ layout_top old → other_layout ≡ told x
-  by_layout misfit r e z n = absurd (omega arith)
-  by_layout broken r e z n = absurd (omega arith)
-  by_layout (sound s) r e z n =
-      let t : top_of bs ≡ s.top = top_read s bs (stands-between s bs (read-sound bs s r).stands) in
-      sym (ap (λ (o : Out). number o.answer) (if=-no (layout_top old) 0 _ _ z ∙ if=-no s.top (layout_top old) _ _ (λ k. n (t ∙ k))))
+  -- by what reading the pool says, of a number that names a layout
+  module _ {r : Result (Unit {0}) Refusal} (asked : r ≡ read_checked bs) (z : layout_top old ≢ 0) where
+    pub refused-reading : {k : Refusal} → r ≡ Err k → Err k ≡ checked bs old
+    unfolding read_checked checked convert
+    refused-reading {k} f = go (read bs) (sym asked ∙ f)
+      where
+        go : (x : Reading) → read_said x ≡ Err k → Err k ≡ told x
+        go misfit e = sym e
+        go broken e = sym e ∙ sym (same (if=-no (layout_top old) 0 _ _ z))
+        go (sound s) e = absurd (let y : ◌≡◌ {A = ℕ} 0 1 = cc in omega arith)
 
-  by-none : (x : Reading) → read bs ≡ x → asked x ≡ 0 → layout_top old ≢ 0 → top_of bs ≡ layout_top old → 0 ≡ told x
-  by-none misfit r e z k = absurd (omega arith)
-  by-none broken r e z k = absurd (omega arith)
-  by-none (sound s) r e z k =
-      let t : top_of bs ≡ s.top = top_read s bs (stands-between s bs (read-sound bs s r).stands) in
-      sym (ap (λ (o : Out). number o.answer) (if=-no (layout_top old) 0 _ _ z ∙ if=-yes s.top (layout_top old) _ _ (sym t ∙ k)))
+    module _ {v : Unit {0}} (f : r ≡ Ok v) {top : ℕ} (e : top ≡ top_of bs) where
+      height : (s : State) → read bs ≡ sound s → top ≡ s.top
+      height s q = e ∙ top_read s bs (stands-between s bs (read-sound bs s q).stands)
 
-  -- ---- the five ways out of `refusal`: `why` is what the pool was read as, `named` the height of the layout that was named, `top` the pool's
+      pub refused-layout : top ≢ layout_top old → Err OtherLayout ≡ checked bs old
+      unfolding read_checked checked convert
+      refused-layout n = go (read bs) refl (sym asked ∙ f)
+        where
+          go : (x : Reading) → read bs ≡ x → read_said x ≡ Ok v → Err OtherLayout ≡ told x
+          go misfit q k = absurd (let y : ◌≡◌ {A = ℕ} 0 1 = cc in omega arith)
+          go broken q k = absurd (let y : ◌≡◌ {A = ℕ} 0 1 = cc in omega arith)
+          go (sound s) q k =
+              sym (same (if=-no (layout_top old) 0 _ _ z ∙ if=-no s.top (layout_top old) _ _ (λ i. n (height s q ∙ i))))
 
-  module _ {why named : ℕ} (ew : why ≡ read_number bs) (et : named ≡ layout_top old) where
-    number_is : asked (read bs) ≡ why
-    unfolding read_number
-    number_is = sym ew
-
-    pub refused-1 : why ≡ not_allowed → not_allowed ≡ refusal bs old
-    unfolding refusal convert
-    refused-1 e = by_length (read bs) (number_is ∙ e)
-
-    module _ (n : why ≢ not_allowed) where
-      pub refused-8 : named ≡ 0 → no_layout ≡ refusal bs old
-      unfolding refusal convert
-      refused-8 z = by_name (read bs) (λ e. n (sym number_is ∙ e)) (sym et ∙ z)
-
-      module _ (z : named ≢ 0) where
-        pub refused-2 : why ≢ 0 → not_sound ≡ refusal bs old
-        unfolding refusal convert
-        refused-2 m = by-reading (read bs) (λ e. n (sym number_is ∙ e)) (λ k. z (et ∙ k)) (λ e. m (sym number_is ∙ e))
-
-        module _ {top : ℕ} (m : why ≡ 0) (e : top ≡ top_of bs) where
-          pub refused-13 : top ≢ named → other_layout ≡ refusal bs old
-          unfolding refusal convert
-          refused-13 k = by_layout (read bs) refl (number_is ∙ m) (λ i. z (et ∙ i)) (λ i. k (e ∙ i ∙ sym et))
-
-          pub not-refused : top ≡ named → 0 ≡ refusal bs old
-          unfolding refusal convert
-          not-refused k = by-none (read bs) refl (number_is ∙ m) (λ i. z (et ∙ i)) (sym e ∙ k ∙ et)
+      pub not-refused : top ≡ layout_top old → Ok tt ≡ checked bs old
+      unfolding read_checked checked convert
+      not-refused n = go (read bs) refl (sym asked ∙ f)
+        where
+          go : (x : Reading) → read bs ≡ x → read_said x ≡ Ok v → Ok tt ≡ told x
+          go misfit q k = absurd (let y : ◌≡◌ {A = ℕ} 0 1 = cc in omega arith)
+          go broken q k = absurd (let y : ◌≡◌ {A = ℕ} 0 1 = cc in omega arith)
+          go (sound s) q k =
+              sym (same (if=-no (layout_top old) 0 _ _ z ∙ if=-yes s.top (layout_top old) _ _ (sym (height s q) ∙ n)))
 
   -- ---- refused, or done on a pool that stands for the state that was read
 
-  abbrev Refusing : Out → Type 0
-  Refusing o = number o.answer ≢ 0 → o ≡ unchanged bs (number o.answer)
+  err-is : (a : Answer) (k : Refusal) → said a ≡ Err k → a ≡ Err k
+  err-is (Ok v) k e = absurd (let y : ◌≡◌ {A = ℕ} 0 1 = cc in omega arith)
+  err-is (Err j) k e = let d : j ≡ k = cc in ap Err d
 
-  refusing-no : (k : ℕ) → Refusing (unchanged bs k)
-  refusing-no k n = refl
+  pub refused-with : {r : Result (Unit {0}) Refusal} {k : Refusal} → r ≡ checked bs old → r ≡ Err k → convert bs old ≡ out (Err k) bs
+  unfolding checked
+  refused-with {k = k} e f =
+      let a : (convert bs old).answer ≡ Err k = err-is (convert bs old).answer k (sym e ∙ f) in
+      λ i. out (a i) ((refused-changes-nothing bs old k a).2 i)
 
-  refusing-done : (s : State) → Refusing (moves s bs old)
-  refusing-done s n = absurd (n refl)
-
-  refusing : (x : Reading) → Refusing (outcome x)
-  refusing misfit = refusing-no not_allowed
-  refusing broken =
-      by= (layout_top old) 0 (λ z. rw (if=-yes {A = Out} (layout_top old) 0 _ _ z) (λ n. refl)) (λ z. rw (if=-no {A = Out} (layout_top old) 0 _ _ z) (λ n. refl))
-  refusing (sound s) =
-      by= (layout_top old) 0 (λ z. rw (if=-yes {A = Out} (layout_top old) 0 _ _ z) (λ n. refl))
-      (λ z. rw (if=-no {A = Out} (layout_top old) 0 _ _ z)
-      (by= s.top (layout_top old) (λ e. rw (if=-yes {A = Out} s.top (layout_top old) _ _ e) (refusing-done s))
-      (λ e. rw (if=-no {A = Out} s.top (layout_top old) _ _ e) (λ n. refl))))
-
-  pub refused-with : {why : ℕ} → why ≡ refusal bs old → why ≢ 0 → convert bs old ≡ out (Refused why) bs
-  unfolding refusal convert
-  refused-with e n = refusing (read bs) (λ z. n (e ∙ z)) ∙ ap (unchanged bs) (sym e)
-
-  -- where no number refuses, the pool is sound and has the layout that was named
+  -- where nothing refuses, the pool is sound and has the layout that was named
   pub record Served : Type 0 where
     pub state : State
     pub reading : read bs ≡ sound state
@@ -138,16 +128,16 @@ module _ (bs : List ℕ) (old : ℕ) where
     pub named : state.top ≡ layout_top old
     pub by-paper : convert bs old ≡ moves state bs old
 
-  serving : (x : Reading) → read bs ≡ x → told x ≡ 0 → Served
+  serving : {v : Unit {0}} (x : Reading) → read bs ≡ x → told x ≡ Ok v → Served
   unfolding convert
-  serving misfit r e = absurd (omega arith)
-  serving broken r e =
+  serving misfit r e = absurd (let y : ◌≡◌ {A = ℕ} 0 1 = cc in omega arith)
+  serving {v} broken r e =
       by= (layout_top old) 0
-      (λ z. absurd (omega (arith, sym (ap (λ (o : Out). number o.answer) (if=-yes (layout_top old) 0 _ _ z)) ∙ e)))
-      (λ z. absurd (omega (arith, sym (ap (λ (o : Out). number o.answer) (if=-no (layout_top old) 0 _ _ z)) ∙ e)))
-  serving (sound s) r e =
+      (λ z. let d : Err NoLayout ≡ Ok v = sym (same (if=-yes (layout_top old) 0 _ _ z)) ∙ e in absurd (let y : ◌≡◌ {A = ℕ} 0 1 = cc in omega arith))
+      (λ z. let d : Err NotSound ≡ Ok v = sym (same (if=-no (layout_top old) 0 _ _ z)) ∙ e in absurd (let y : ◌≡◌ {A = ℕ} 0 1 = cc in omega arith))
+  serving {v} (sound s) r e =
       by= (layout_top old) 0
-      (λ z. absurd (omega (arith, sym (ap (λ (o : Out). number o.answer) (if=-yes (layout_top old) 0 _ _ z)) ∙ e)))
+      (λ z. let d : Err NoLayout ≡ Ok v = sym (same (if=-yes (layout_top old) 0 _ _ z)) ∙ e in absurd (let y : ◌≡◌ {A = ℕ} 0 1 = cc in omega arith))
       (λ z. by= s.top (layout_top old)
       (λ k. record {
         state = s;
@@ -156,24 +146,22 @@ module _ (bs : List ℕ) (old : ℕ) where
         named = k;
         by-paper = ap outcome r ∙ if=-no (layout_top old) 0 _ _ z ∙ if=-yes s.top (layout_top old) _ _ k;
       })
-      (λ k. absurd (omega (
-        arith,
-        sym (ap (λ (o : Out). number o.answer) (if=-no (layout_top old) 0 _ _ z ∙ if=-no s.top (layout_top old) _ _ k)) ∙ e,
-      ))))
+      (λ k. let d : Err OtherLayout ≡ Ok v = sym (same (if=-no (layout_top old) 0 _ _ z ∙ if=-no s.top (layout_top old) _ _ k)) ∙ e in
+      absurd (let y : ◌≡◌ {A = ℕ} 0 1 = cc in omega arith)))
 
-  pub served : refusal bs old ≡ 0 → Served
-  unfolding refusal convert
+  pub served : {v : Unit {0}} → checked bs old ≡ Ok v → Served
+  unfolding checked convert
   served e = serving (read bs) refl e
 
-  module _ {why : ℕ} (e : why ≡ refusal bs old) (z : why ≡ 0) where
+  module _ {r : Result (Unit {0}) Refusal} (e : r ≡ checked bs old) {v : Unit {0}} (z : r ≡ Ok v) where
     pub served-allowed : Allowed (length bs)
     served-allowed = let S = served (sym e ∙ z) in stands-allowed S.state bs S.stands
 
-    pub done-with : {named t : ℕ} {after : List ℕ} → named ≡ other old → t ≡ layout_top named → after ≡ moved bs t → length after ≡ length bs
-        → convert bs old ≡ out (Done (length after)) after
-    done-with {after = after} n k m l =
+    pub done-with : {t : ℕ} {after : List ℕ} → t ≡ layout_top (other old) → after ≡ moved bs t → length after ≡ length bs
+        → convert bs old ≡ out (Ok (length after)) after
+    done-with {after = after} k m l =
         let S = served (sym e ∙ z) in
         S.by-paper
-        ∙ (λ i. out (Done (sym l i)) (write (sheet (relaid S.state old)) bs))
-        ∙ ap (out (Done (length after)))
-        (sym (m ∙ ap (moved bs) (k ∙ ap layout_top n) ∙ move-bytes S.state bs S.stands (layout_top (other old)) (other-top old)))
+        ∙ (λ i. out (Ok (sym l i)) (write (sheet (relaid S.state old)) bs))
+        ∙ ap (out (Ok (length after)))
+        (sym (m ∙ ap (moved bs) k ∙ move-bytes S.state bs S.stands (layout_top (other old)) (other-top old)))

@@ -14,8 +14,6 @@ use Rattle.paper.proofs.reads.Standing.{sound-stands, stands-sound}
 use Rattle.paper.proofs.reads.Stands.{Stands}
 use Rattle.paper.proofs.sheet.Written.{length-write}
 use Rattle.paper.proofs.sheet.WrittenBytes.{write_bytes}
-use Rattle.paper.specs.declared.Answer.TheVariants.{Done}
-use Rattle.paper.specs.Answers.{Out, out}
 use Rattle.paper.specs.Blocks.{State, with_top}
 use Rattle.paper.specs.Calls.{Reading}
 use Rattle.paper.specs.Fresh.{layout_top}
@@ -26,6 +24,8 @@ use Rattle.pool.proofs.Holding.{read_is}
 use Rattle.convert.specs.Converting.{convert, convert_call, moves, other}
 use Rattle.convert.specs.Reserved.{Reserved}
 use Rattle.convert.proofs.BothWays.{back, governed-back, lost, reserved-back, there, there-stands, through-1, through-2}
+use Rattle.std.specs.declared.result.Result.TheVariants.{Ok}
+use Rattle.paper.specs.Answers.{out, Out}
 
 -- a pool of the layout that is named is moved
 module _ (bs : List ℕ) (bytes : Bytes bs) (s : State) (S : Stands s bs) (old : ℕ) where
@@ -41,8 +41,8 @@ returned bs old = (convert (convert bs old).after (other old)).after
 
 -- both moves are done, and every byte is known
 pub record Both (bs : List ℕ) (s : State) (old t : ℕ) : Type 0 where
-  pub there-done : convert bs old ≡ out (Done (length bs)) (there s t bs)
-  pub back_done : convert (convert bs old).after (other old) ≡ out (Done (length bs)) (back s t bs)
+  pub there-done : convert bs old ≡ out (Ok (length bs)) (there s t bs)
+  pub back_done : convert (convert bs old).after (other old) ≡ out (Ok (length bs)) (back s t bs)
 
 module _ (bs : List ℕ) (bytes : Bytes bs) (S : Sound bs) where
   abbrev s : State
@@ -56,24 +56,24 @@ module _ (bs : List ℕ) (bytes : Bytes bs) (S : Sound bs) where
   both old t n named to either home =
       record { there-done = went; back_done = ap (λ (o : Out). convert o.after (other old)) went ∙ came }
     where
-      went : convert bs old ≡ out (Done (length bs)) (there s t bs)
-      went = moved_by bs bytes s stands old n named ∙ ap (λ (k : ℕ). out (Done (length bs)) (there s k bs)) to
+      went : convert bs old ≡ out (Ok (length bs)) (there s t bs)
+      went = moved_by bs bytes s stands old n named ∙ ap (λ (k : ℕ). out (Ok (length bs)) (there s k bs)) to
 
-      came : convert (there s t bs) (other old) ≡ out (Done (length bs)) (back s t bs)
+      came : convert (there s t bs) (other old) ≡ out (Ok (length bs)) (back s t bs)
       came =
           moved_by (there s t bs) (write_bytes _ bs bytes) (with_top t s) (there-stands s bs stands t either) (other old) (not_none either) (sym to)
-          ∙ (λ i. out (Done (length-write (sheet (with_top t s)) bs i)) (write (sheet (with_top (home i) s)) (there s t bs)))
+          ∙ (λ i. out (Ok (length-write (sheet (with_top t s)) bs i)) (write (sheet (with_top (home i) s)) (there s t bs)))
         where
           not_none : (t ≡ 1) ⊎ (t ≡ 13) → layout_top (other old) ≢ 0
           not_none (inl e) = λ z. omega (arith, to)
           not_none (inr e) = λ z. omega (arith, to)
 
   -- ---- from layout 2: every byte comes back
-  pub from-2 : s.top ≡ 13 → ((convert bs 2).answer ≡ Done (length bs)) × (convert (convert bs 2).after 1 ≡ out (Done (length bs)) bs)
+  pub from-2 : s.top ≡ 13 → ((convert bs 2).answer ≡ Ok (length bs)) × (convert (convert bs 2).after 1 ≡ out (Ok (length bs)) bs)
   unfolding layout_top other if=
   from-2 e =
       let b = both 2 1 (omega arith) e refl (inl refl) (sym e) in
-      (ap (λ (o : Out). o.answer) b.there-done, b.back_done ∙ ap (out (Done (length bs))) (through-1 s bs stands))
+      (ap (λ (o : Out). o.answer) b.there-done, b.back_done ∙ ap (out (Ok (length bs))) (through-1 s bs stands))
 
   -- ---- from layout 1
   module _ (one : s.top ≡ 1) where
@@ -84,7 +84,7 @@ module _ (bs : List ℕ) (bytes : Bytes bs) (S : Sound bs) where
     returned-is : returned bs 1 ≡ back s 13 bs
     returned-is = ap (λ (o : Out). o.after) both-1.back_done
 
-    pub from-1 : ((convert bs 1).answer ≡ Done (length bs)) × ((convert (convert bs 1).after 2).answer ≡ Done (length bs))
+    pub from-1 : ((convert bs 1).answer ≡ Ok (length bs)) × ((convert (convert bs 1).after 2).answer ≡ Ok (length bs))
     unfolding other if=
     from-1 = (ap (λ (o : Out). o.answer) both-1.there-done, ap (λ (o : Out). o.answer) both-1.back_done)
 

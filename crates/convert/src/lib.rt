@@ -4,53 +4,43 @@
 
 ghost use Rattle.std.specs.Prelude.{◌≡◌};
 ghost use Rattle.paper.specs.Answers.{out};
+ghost use Rattle.paper.specs.Fresh.{layout_top};
 ghost use Rattle.convert.specs.Converting as call;
 
-use paper::Answer;
+use paper::Refusal;
 
-// The refusal's number: the pool is not of the layout that was named.
-pub const OTHER_LAYOUT: u8 = 13;
-
-// The other layout's number.
-fn other(layout: u32) -> u32
-    ensures { result ≡ call.other layout }
+// How high the index of the other layout is.
+fn other_top(old: u32) -> u32
+    ensures { result ≡ layout_top (call.other old) }
 {
-    if layout == 1 {
-        return 2;
+    if old == 1 {
+        return paper::LEVELS;
     }
     1
 }
 
-// The number that the call is refused with, in the order 1, 8, 2, 13; 0 where nothing refuses it.
-fn refusal(pool: &[u8], old: u32) -> u8
-    ensures { result ≡ call.refusal pool.now old }
+// Why the call is refused, in the order 1, 8, 2, 13.
+fn check(pool: &[u8], old: u32) -> Result<(), Refusal>
+    ensures { result ≡ call.checked pool.now old }
 {
-    let read = reading::refusal(pool);
-    let named = laying::top_of(old);
-    let top = levels::top(pool);
-    if read == paper::NOT_ALLOWED {
-        return paper::NOT_ALLOWED;
+    if !reading::allowed(pool.len()) {
+        return Err(Refusal::NotAllowed);
     }
-    if named == 0 {
-        return paper::NO_LAYOUT;
+    let Some(named) = laying::top_of(old) else {
+        return Err(Refusal::NoLayout);
+    };
+    reading::check(pool)?;
+    if levels::top(pool) != named {
+        return Err(Refusal::OtherLayout);
     }
-    if read != 0 {
-        return paper::NOT_SOUND;
-    }
-    if top != named {
-        return OTHER_LAYOUT;
-    }
-    0
+    Ok(())
 }
 
 // Moves the pool from the layout `old` to the other one; answers its length.
-pub fn convert(pool: &mut [u8], old: u32) -> Answer
+pub fn convert(pool: &mut [u8], old: u32) -> Result<u32, Refusal>
     ensures { call.convert pool.old old ≡ out result pool.new }
 {
-    let why = refusal(pool, old);
-    if why != 0 {
-        return Answer::Refused(why);
-    }
-    moving::move_to(pool, laying::top_of(other(old)));
-    Answer::Done(pool.len() as u32)
+    check(pool, old)?;
+    moving::move_to(pool, other_top(old));
+    Ok(pool.len() as u32)
 }

@@ -25,8 +25,8 @@ fn put_back(pool: &mut [u8], q: u32, z: u32)
 fn earn(pool: &mut [u8], z: u32)
     ensures { pool.new ≡ earned pool.old z }
 {
-    let free = words::get32(pool, paper::FREE_WORD);
-    words::put32(pool, paper::FREE_WORD, words::plus(free, z));
+    let free = words::get::<u32>(pool, paper::FREE_WORD);
+    words::put(pool, paper::FREE_WORD, words::plus(free, z));
 }
 
 // The held block at q, z bytes long, comes back.

@@ -9,7 +9,7 @@ fn at_front(pool: &mut [u8], q: u32, z: u32)
     ensures { pool.new ≡ at_front pool.old q z }
 {
     let first = words::field(pool, SMALL_BINS, z);
-    words::put32(pool, q as usize, heads::free_head(z));
+    words::put(pool, q as usize, heads::free_head(z));
     words::put_field(pool, q, paper::SMALL_NEXT, first);
     words::put_field(pool, SMALL_BINS, z, q);
 }
@@ -18,7 +18,7 @@ fn at_front(pool: &mut [u8], q: u32, z: u32)
 pub fn give_back_small(pool: &mut [u8], q: u32, z: u32)
     ensures { pool.new ≡ give_back_small pool.old q z }
 {
-    if q == words::get32(pool, END) {
+    if q == words::get::<u32>(pool, END) {
         homing::go_home(pool, words::plus(q, z));
         return;
     }

@@ -6,16 +6,16 @@ use native.Mathlib.Omega.{arith}
 use Rattle.grant.specs.Granted.{granted, spent}
 use Rattle.paper.proofs.sheet.FreeWordLast.{Past, past-put, past_word}
 use Rattle.paper.proofs.sheet.Stores.{puts}
-use Rattle.paper.specs.Answers.{out}
 use Rattle.paper.specs.Blocks.{State}
 use Rattle.paper.specs.Calls.{leaves}
 use Rattle.paper.specs.Governed.{sheet}
 use Rattle.paper.specs.Granting.{granted as granted-state}
 use Rattle.paper.specs.Layout.{free_word_at}
 use Rattle.paper.specs.Sheet.{write}
-use Rattle.paper.specs.declared.Answer.TheVariants.{Done}
 use Rattle.words.specs.Sums.{minus, plus}
 use Rattle.words.specs.Words.{put_at, word_at}
+use Rattle.std.specs.declared.result.Result.TheVariants.{Ok}
+use Rattle.paper.specs.Answers.{out}
 
 pub spent-is : (bs : List ℕ) (b f : ℕ) → word_at 4 bs free_word_at ≡ f → f ≤ 65536 → b ≤ f → spent bs b ≡ put_at 4 bs free_word_at (f - b)
 unfolding spent
@@ -29,4 +29,4 @@ spent-stores ps bs b f h e m l = spent-is (puts ps bs) b f (past_word ps bs h �
 pub granted-leaves : (cs : List ℕ) (q b : ℕ) (s : State) (bs : List ℕ) → q ≤ 65536 → spent cs b ≡ write (sheet s) bs
     → granted cs q b ≡ leaves (granted-state q s) bs
 unfolding granted
-granted-leaves cs q b s bs near e = let p : plus q 4 ≡ q + 4 = omega arith in λ i. out (Done (p i)) (e i)
+granted-leaves cs q b s bs near e = let p : plus q 4 ≡ q + 4 = omega arith in λ i. out (Ok (p i)) (e i)

@@ -3,7 +3,6 @@ use Rattle.std.specs.Prelude.{List, true, ℕ}
 use Rattle.words.specs.Sums.{plus, minus}
 use Rattle.words.specs.Words.{word_at, put_at}
 use Rattle.heads.specs.Heads.{held_head, free_head, with_p}
-use Rattle.paper.specs.Answers.{Out}
 use Rattle.paper.specs.Layout.{start_at}
 use Rattle.bins.specs.declared.chain.Bin.{Bin}
 use Rattle.bins.specs.Find.{size}
@@ -11,6 +10,7 @@ use Rattle.bins.specs.Leave.{used_in, take_out}
 use Rattle.bins.specs.Enter.{enter}
 use Rattle.grant.specs.Granted.{granted}
 use Rattle.choosing.specs.declared.remainder.Rest.{Rest}
+use Rattle.paper.specs.Answers.{Out}
 
 unfoldable pub hold : List ℕ → ℕ → ℕ → List ℕ
 hold bs q b =

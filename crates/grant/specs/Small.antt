@@ -3,10 +3,10 @@ use Rattle.std.specs.Prelude.{List, ℕ, ◌+◌}
 use Rattle.words.specs.Sums.{minus}
 use Rattle.words.specs.Words.{word_at, put_at}
 use Rattle.heads.specs.Heads.{held_head, free_head}
-use Rattle.paper.specs.Answers.{Out}
 use Rattle.paper.specs.Layout.{end_at, small_bins, small_next_at}
 use Rattle.choosing.specs.declared.remainder.Rest.{Rest}
 use Rattle.grant.specs.Granted.{granted}
+use Rattle.paper.specs.Answers.{Out}
 
 -- the first block q of the bin of size b
 unfoldable pub take_first : List ℕ → ℕ → ℕ → Out

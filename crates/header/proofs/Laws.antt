@@ -1,8 +1,9 @@
 -- Where each way out of the tests at fixed places leads.
-use mathlib.Core.Path.{◌≡◌, refl, sym, ap, ◌∙◌, subst}
+use mathlib.Core.Path.{◌≡◌, refl, sym, ap, ap₂, ◌∙◌, subst}
 use mathlib.Core.Bool.{Bool, true, false, not}
 use mathlib.Core.List.{List}
 use Prim.Native.Nat.{ℕ, zero, suc, ◌+◌, ◌-◌, ◌*◌, ◌%◌, ◌≤◌, ◌<◌}
+use native.Mathlib.Nat.{add-mul}
 use native.Mathlib.Omega.{arith}
 use lib.Bits.{and_le_l, and_le_r, bit_or, or_add_and, or_zero_l}
 use lib.ListN.{length}
@@ -48,13 +49,13 @@ true-link q {b} {w} {l} e f h = e ∙ eq-eqb _ _ (subst (λ (v : ℕ). v ≡ lin
 either-zero : (a b : ℕ) → bit_or a b ≡ 0 → (a ≡ 0) × (b ≡ 0)
 either-zero a b h = (omega (arith, or_add_and a b, and_le_r a b), omega (arith, or_add_and a b, and_le_l a b))
 
-pub record Clearing (s : List ℕ) (k st from : ℕ) (all n at : ℕ) : Type 0 where
-  pub rest : cleared s k st from ≡ if= all 0 (cleared s n st at) false
-  pub short : n ≤ k
-  pub near : at + 4294967296 * n ≤ from + 4294967296 * k
+-- i of the k words are seen, and `all` has them together
+pub record Clearing (s : List ℕ) (k st from : ℕ) (all i : ℕ) : Type 0 where
+  pub rest : cleared s k st from ≡ if= all 0 (cleared s (k - i) st (from + i * st)) false
 
-pub clearing : (s : List ℕ) (k st from : ℕ) → Clearing s k st from 0 k from
-clearing s k st from = record { rest = sym (if=-yes 0 0 _ _ refl); short = omega arith; near = omega arith }
+pub clearing : (s : List ℕ) (k st from : ℕ) → Clearing s k st from 0 0
+clearing s k st from =
+    record { rest = sym (if=-yes 0 0 _ _ refl ∙ ap₂ (λ (n at : ℕ). cleared s n st at) (omega arith) (omega arith)) }
 
 clear-end : (s : List ℕ) (n st at : ℕ) → n ≡ 0 → cleared s n st at ≡ true
 unfolding cleared
@@ -72,20 +73,21 @@ clear-on s all n st at =
     ∙ sym (if=-no (bit_or all (word_at 4 s at)) 0 _ _ (λ h. f (either-zero all (word_at 4 s at) h).1))))
     (λ e. if=-no all 0 _ _ e ∙ sym (if=-no (bit_or all (word_at 4 s at)) 0 _ _ (λ h. e (either-zero all (word_at 4 s at) h).0)))
 
-module _ {s : List ℕ} {k st from all n at : ℕ} (g : Clearing s k st from all n at) where
-  pub is-cleared : n ≡ 0 → eqb all 0 ≡ cleared s k st from
+module _ {s : List ℕ} {k st from all i : ℕ} (g : Clearing s k st from all i) where
+  pub is-cleared : k ≤ i → eqb all 0 ≡ cleared s k st from
   is-cleared e =
       by= all 0
-      (λ h. eq-eqb all 0 h ∙ sym (g.rest ∙ if=-yes all 0 _ _ h ∙ clear-end s n st at e))
+      (λ h. eq-eqb all 0 h ∙ sym (g.rest ∙ if=-yes all 0 _ _ h ∙ clear-end s (k - i) st (from + i * st) (omega arith)))
       (λ h. ne_eqb all 0 h ∙ sym (g.rest ∙ if=-no all 0 _ _ h))
 
-  pub clears : {w : ℕ} → (n ≡ 0 → ⊥) → st < 4294967296 → w ≡ word_at 4 s at → Clearing s k st from (bit_or all w) (n - 1) (at + st)
-  clears {w} e l h =
+  pub clears : {w : ℕ} → i < k → w ≡ word_at 4 s (from + i * st) → Clearing s k st from (bit_or all w) (i + 1)
+  clears {w} l h =
+      let n : ℕ = k - (i + 1) in
+      let at : ℕ = from + i * st in
       record {
-        rest = g.rest ∙ ap (λ (v : ℕ). if= all 0 (cleared s v st at) false) (omega arith) ∙ clear-on s all (n - 1) st at
-            ∙ ap (λ (v : ℕ). if= (bit_or all v) 0 (cleared s (n - 1) st (at + st)) false) (sym h);
-        short = omega (arith, g.short);
-        near = omega (arith, g.near);
+        rest = g.rest ∙ ap (λ (v : ℕ). if= all 0 (cleared s v st at) false) (omega arith) ∙ clear-on s all n st at
+            ∙ ap (λ (v : ℕ). if= (bit_or all v) 0 (cleared s n st (at + st)) false) (sym h)
+            ∙ ap (λ (v : ℕ). if= (bit_or all w) 0 (cleared s n st v) false) (omega (arith, add-mul i 1 st));
       }
 
 -- ---- the last test of each list: all before it have passed

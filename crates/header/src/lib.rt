@@ -1,7 +1,7 @@
 // The words that stand at fixed places: the header, the false block, and the head of the remainder.
 #![tactic(auto)]
 
-ghost use Rattle.std.specs.Prelude.{◌≡◌, eqb};
+ghost use Rattle.std.specs.Prelude.{◌≡◌, ◌*◌, ◌<◌, eqb};
 ghost use Rattle.heads.specs.Links.{link_word, followed};
 ghost use Rattle.guards.specs.Tests.{pass};
 ghost use Rattle.header.specs.Header.{cleared, rest_between, reserved_tests, false_tests};
@@ -30,7 +30,7 @@ pub fn remainder_ok(pool: &[u8], a: u32, b: u32) -> bool
     if b % 8 != 0 {
         return false;
     }
-    words::get32(pool, a as usize) == heads::free_head(b - a)
+    words::get::<u32>(pool, a as usize) == heads::free_head(b - a)
 }
 
 // The header's second word, the high half of all twelve, and the false block: zero, but for its level word and its index words.
@@ -42,7 +42,7 @@ pub fn false_block_ok(pool: &[u8]) -> bool
     if pool.len() < BLOCKS as usize {
         return false;
     }
-    if words::get32(pool, FALSE_WORD) != FALSE_BLOCK {
+    if words::get::<u32>(pool, FALSE_WORD) != FALSE_BLOCK {
         return false;
     }
     if words::field(pool, FALSE_BLOCK, CHAIN + 4) != 0 {
@@ -73,15 +73,12 @@ fn reserved_ok(pool: &[u8]) -> bool
 
 // Whether k words from `from` on, `step` bytes apart, are 0: one test for all of them.
 fn zeros(pool: &[u8], k: u32, step: u32, from: u32) -> bool
+    requires { k * step < 4294967296 }
     ensures { result ≡ cleared pool.now k step from }
 {
-    let mut all: u32 = 0;
-    let mut left = k;
-    let mut at = from as usize;
-    while left != 0 {
-        all = all | words::get32(pool, at);
-        left -= 1;
-        at += step as usize;
+    let mut all = 0;
+    for i in 0..k {
+        all |= words::field(pool, from, i * step);
     }
     all == 0
 }

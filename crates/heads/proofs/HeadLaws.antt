@@ -9,7 +9,7 @@ use lib.Dec.{eqb}
 use lib.Bits.{bit_and, bit_or, and_mask, or_shifted}
 use mir.Val.{bool_byte}
 use Rattle.heads.specs.declared.head.Head.{Head}
-use Rattle.heads.specs.Heads.{flags_of, free_head, head_of, word_of}
+use Rattle.heads.specs.Heads.{free_head, head_of, word_of}
 
 flag-lt : (b : Bool) → bool_byte b < 2
 flag-lt true = omega arith
@@ -59,10 +59,6 @@ head-word h l =
     flag-eqb : (b : Bool) → eqb (bool_byte b) 1 ≡ b
     flag-eqb true = refl
     flag-eqb false = refl
-
--- both flags by one mask
-pub flags : (w : ℕ) → bit_and w 3 ≡ flags_of w
-flags w = and_mask w 2
 
 -- the head of a free block, for every size of a pool
 pub free-head : (z : ℕ) → z ≤ 65536 → free_head z ≡ 4 * z + 2

@@ -6,20 +6,34 @@
 ghost use Rattle.std.specs.Prelude.{◌≡◌};
 ghost use Rattle.heads.specs.Heads.{head_of, size_of, flags_of, word_of, held_head, free_head, with_p, block_size};
 
-#[derive(Clone, Copy)]
+#[derive(Clone, Copy, Debug, PartialEq, Eq)]
 pub struct Head {
     pub size: u32,
     pub p: bool,
     pub held: bool,
 }
 
-pub fn apart(w: u32) -> Head
-    ensures { result ≡ head_of w }
-{
-    Head {
-        size: w >> 2,
-        p: (w >> 1) & 1 == 1,
-        held: w & 1 == 1,
+impl From<u32> for Head {
+    ghost from_gives = { λ w result. result ≡ head_of w };
+
+    fn from(w: u32) -> Head
+        ensures { result ≡ head_of w }
+    {
+        Head {
+            size: w >> 2,
+            p: (w >> 1) & 1 == 1,
+            held: w & 1 == 1,
+        }
+    }
+}
+
+impl From<Head> for u32 {
+    ghost from_gives = { λ h result. result ≡ word_of h };
+
+    fn from(h: Head) -> u32
+        ensures { result ≡ word_of h }
+    {
+        (h.size << 2) | ((h.p as u32) << 1) | (h.held as u32)
     }
 }
 
@@ -44,17 +58,11 @@ pub const HELD_ABOVE_FREE: u32 = 1;
 
 pub const FREE: u32 = 2;
 
-pub fn together(h: Head) -> u32
-    ensures { result ≡ word_of h }
-{
-    (h.size << 2) | ((h.p as u32) << 1) | (h.held as u32)
-}
-
-// The head of a held block above no free large block.
+// The head of a held block above no free large block. It and `free_head` differ in a flag alone, and stay two: `true` at a call would say less.
 pub fn held_head(size: u32) -> u32
     ensures { result ≡ held_head size }
 {
-    together(Head {
+    u32::from(Head {
         size,
         p: true,
         held: true,
@@ -65,7 +73,7 @@ pub fn held_head(size: u32) -> u32
 pub fn free_head(size: u32) -> u32
     ensures { result ≡ free_head size }
 {
-    together(Head {
+    u32::from(Head {
         size,
         p: true,
         held: false,
@@ -76,12 +84,7 @@ pub fn free_head(size: u32) -> u32
 pub fn with_p(w: u32, p: bool) -> u32
     ensures { result ≡ with_p w p }
 {
-    let h = apart(w);
-    together(Head {
-        size: h.size,
-        p,
-        held: h.held,
-    })
+    u32::from(Head { p, ..Head::from(w) })
 }
 
 // The block size for a payload of s bytes: exact for every s, so it may need 33 bits.

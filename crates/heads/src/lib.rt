@@ -5,7 +5,6 @@ mod head;
 mod links;
 
 pub use head::{
-    FREE, HELD, HELD_ABOVE_FREE, Head, apart, block_size, flags_of, free_head, held_head, size_of,
-    together, with_p,
+    FREE, HELD, HELD_ABOVE_FREE, Head, block_size, flags_of, free_head, held_head, size_of, with_p,
 };
 pub use links::{Pair, both_ways, follow, link_word};

@@ -1,17 +1,19 @@
--- Along the free blocks, for the loop of homing::free_run: the whole run is the run from here, and each way out or on is one law.
-use mathlib.Core.Bool.{false, true}
+-- Along the free blocks, for the loop of homing::free_run over walk::Blocks: the whole run is the run from here, and each way out or on is one law.
+use mathlib.Core.Bool.{Bool, false, true}
 use mathlib.Core.List.{List}
 use mathlib.Core.Logic.{◌≢◌}
-use mathlib.Core.Path.{◌≡◌, sym, ap, ◌∙◌}
-use Prim.Native.Nat.{ℕ, zero, suc, ◌+◌, ◌≤◌, ◌<◌}
+use mathlib.Core.Path.{◌≡◌, refl, sym, ap, ◌∙◌}
+use Prim.Native.Nat.{ℕ, zero, suc, ◌+◌, ◌^◌, ◌≤◌, ◌<◌}
 use native.Mathlib.Omega.{arith}
 use lib.ListN.{length}
 use Rattle.words.specs.Choice.{by<, if<-no, if<-yes, if=, if=-no, if=-yes, when, when-no, when-yes}
 use Rattle.words.specs.Sums.{plus}
-use Rattle.words.specs.Words.{word_at}
-use Rattle.heads.specs.Heads.{head_of}
 use Rattle.heads.specs.declared.head.Head.{Head}
+use Rattle.std.proofs.Common.{Some, None, ⊎_elim}
+use Rattle.walk.specs.declared.blocks.Block.{Block}
+use Rattle.walk.specs.declared.blocks.Blocks.{Blocks}
 use Rattle.walk.specs.Blocks.{head_at, pool_end}
+use Rattle.walk.specs.Steps.{Between, Steps}
 use Rattle.homing.specs.Homing.{ended, free_run, run_from}
 use Rattle.homing.specs.declared.Run.{Run}
 
@@ -29,7 +31,7 @@ no_longer bs =
     (λ l. omega (arith, if<-yes {A = ℕ} (length bs) 65536 (length bs) 65536 l))
     (λ l. omega (arith, if<-no {A = ℕ} (length bs) 65536 (length bs) 65536 l))
 
-pub begins : (bs : List ℕ) (from to : ℕ) → to ≡ pool_end bs → Running bs from to from 0
+begins : (bs : List ℕ) (from to : ℕ) → to ≡ pool_end bs → Running bs from to from 0
 unfolding free_run
 begins bs from to e =
     record {
@@ -39,9 +41,14 @@ begins bs from to e =
       same = λ i. run_from (suc (sym e i)) bs (sym e i) from 0;
     }
 
+when-same : {A : Type 0} (b : Bool) (x : A) → when b x x ≡ x
+unfolding when
+when-same true x = refl
+when-same false x = refl
+
 module _ {bs : List ℕ} {from to at k : ℕ} (W : Running bs from to at k) where
   -- the pool ends here
-  pub ends : to ≤ at → ended at k ≡ free_run bs from
+  ends : to ≤ at → ended at k ≡ free_run bs from
   unfolding run_from
   ends l = sym (go W.fuel W.same)
     where
@@ -49,10 +56,7 @@ module _ {bs : List ℕ} {from to at k : ℕ} (W : Running bs from to at k) wher
       go zero e = e
       go (suc f) e = e ∙ if<-no at to _ _ l
 
-  module _ (l : at < to) {w : ℕ} (ew : w ≡ word_at 4 bs at) (h : Head) (eh : h ≡ head_of w) where
-    is : h ≡ head_at bs at
-    is = eh ∙ ap head_of ew
-
+  module _ (l : at < to) (h : Head) (is : h ≡ head_at bs at) where
     abbrev next : ℕ → Run
     next f = run_from f bs to (plus at h.size) (plus k 1)
 
@@ -65,28 +69,67 @@ module _ {bs : List ℕ} {from to at k : ℕ} (W : Running bs from to at k) wher
         go zero m g = absurd (omega arith)
         go (suc f) m g = (f, m, rw is (g ∙ if<-yes at to _ _ l))
 
-    -- a held block ends the run
-    pub held-there : h.held ≡ true → ended at k ≡ free_run bs from
-    held-there e = sym (opened.2 ∙ when-yes h.held _ _ e)
+    -- a held block ends the run, and so does a size of 0
+    held-here : h.held ≡ true → ended at k ≡ free_run bs from
+    held-here e = sym (opened.2 ∙ when-yes h.held _ _ e)
 
-    module _ (free : h.held ≡ false) where
-      pub stuck : h.size ≡ 0 → ended at k ≡ free_run bs from
-      stuck z = sym (opened.2 ∙ when-no h.held _ _ free ∙ if=-yes h.size 0 _ _ z)
+    stuck : h.size ≡ 0 → ended at k ≡ free_run bs from
+    stuck z = sym (opened.2 ∙ ap (when h.held (ended at k)) (if=-yes h.size 0 _ _ z) ∙ when-same h.held (ended at k))
 
-      -- no place in a pool and no size comes near 2^32
-      pub plain : w < 4294967296 → plus at h.size ≡ at + h.size
-      unfolding head_of
-      plain s = let z : h.size < 1073741824 = omega (arith, ap (λ (x : Head). x.size) eh) in omega (arith, W.short)
-
-      pub goes_on : h.size ≢ 0 → w < 4294967296 → {at' k' : ℕ} → at' ≡ plus at h.size → k' ≡ plus k 1 → Running bs from to at' k'
-      goes_on n s {at'} {k'} ea ek =
+    -- no place in a pool and no size comes near 2^32
+    goes_on : h.held ≡ false → h.size ≢ 0 → h.size < 2 ^ 30 → {at' k' : ℕ} → at' ≡ plus at h.size → k' ≡ plus k 1
+        → (at' ≡ at + h.size) × Running bs from to at' k'
+    goes_on free n s {at'} {k'} ea ek =
+        let plain : plus at h.size ≡ at + h.size = omega (arith, W.short) in (
+          ea ∙ plain,
           record {
             short = W.short;
             fuel = opened.0;
-            enough = omega (arith, opened.1, ea, plain s);
+            enough = omega (arith, opened.1, ea, plain);
             same = opened.2 ∙ when-no h.held _ _ free ∙ if=-no h.size 0 _ _ n ∙ (λ i. run_from opened.0 bs to (sym ea i) (sym ek i));
-          }
+          },
+        )
 
-      -- the walk comes nearer to the pool's end
-      pub nearer : h.size ≢ 0 → w < 4294967296 → {at' : ℕ} → at' ≡ plus at h.size → at < at'
-      nearer n s ea = omega (arith, ea, plain s)
+-- the same, where the iterator w stands, and with what was found so far
+pub record RunningOn (bs : List ℕ) (from : ℕ) (w : Blocks) (r : Run) : Type 0 where
+  pub way : Running bs from w.end w.at r.blocks
+  pub pool : w.pool.now ≡ bs
+  pub at : r.end ≡ w.at
+
+pub sets_out : {bs : List ℕ} {from to : ℕ} → to ≡ pool_end bs → {v w : Blocks} → Between bs from to v → w ≡ v → RunningOn bs from w (ended from 0)
+sets_out {bs} {from} {to} p {v} {w} b e =
+    let at : w.at ≡ from = ap (λ (s : Blocks). s.at) e ∙ b.at in
+    let end : w.end ≡ to = ap (λ (s : Blocks). s.end) e ∙ b.end in
+    record {
+      way = rw (at, end) (begins bs from to p);
+      pool = ap (λ (s : Blocks). s.pool.now) e ∙ b.pool;
+      at = sym at;
+    }
+
+module _ {bs : List ℕ} {from : ℕ} {w : Blocks} {r : Run} (R : RunningOn bs from w r) where
+  here : ended w.at r.blocks ≡ free_run bs from → r ≡ free_run bs from
+  here g = ap (λ (e : ℕ). ended e r.blocks) R.at ∙ g
+
+  pub arrives : {t : Blocks} → Steps w None t → r ≡ free_run bs from
+  arrives S =
+      ⊎_elim
+      (λ l. here (ends R.way l))
+      (λ (l, z). here (stuck R.way l (head_at bs w.at) refl (rw (← R.pool) z)))
+      S.gives
+
+  module _ {b : Block} {t : Blocks} (S : Steps w (Some b) t) where
+    head-here : b.head ≡ head_at bs w.at
+    head-here = S.gives.head ∙ ap (λ (v : List ℕ). head_at v w.at) R.pool
+
+    pub held-there : b.head.held ≡ true → r ≡ free_run bs from
+    held-there e = here (held-here R.way S.gives.below b.head head-here e)
+
+    pub runs_on : b.head.held ≡ false → {end blocks : ℕ} → end ≡ plus b.start b.head.size → blocks ≡ plus r.blocks 1 → RunningOn bs from t (ended end blocks)
+    runs_on free {end} {blocks} ea ek =
+        let on = goes_on R.way S.gives.below b.head head-here free S.gives.sized S.gives.short
+        (ea ∙ ap (λ (a : ℕ). plus a b.head.size) S.gives.start) ek in
+        record {
+          way = rw (S.end, S.gives.on, ← on.0) on.1;
+          pool = S.pool ∙ R.pool;
+          at = on.0 ∙ sym S.gives.on;
+        }

@@ -10,6 +10,7 @@ ghost use Rattle.words.specs.Words.{put_at};
 ghost use Rattle.homing.specs.Homing.{free_run, pruned, pruned_from, homed, homes};
 
 use paper::{END, FALSE_BLOCK, SMALL_BINS, SMALL_NEXT, START};
+use walk::Blocks;
 
 // Free blocks end to end: where they end, and how many they are.
 #[derive(Clone, Copy)]
@@ -22,31 +23,28 @@ pub struct Run {
 fn free_run(pool: &[u8], from: u32) -> Run
     ensures { result ≡ free_run pool.now from }
 {
-    let to = walk::pool_end(pool);
-    let mut end = from;
-    let mut blocks: u32 = 0;
-    while end < to {
-        let head = heads::apart(words::get32(pool, end as usize));
-        if head.held {
-            return Run { end, blocks };
+    let mut run = Run {
+        end: from,
+        blocks: 0,
+    };
+    for block in Blocks::below(pool, from, walk::pool_end(pool)) {
+        if block.head.held {
+            return run;
         }
-        if head.size == 0 {
-            return Run { end, blocks };
-        }
-        end = words::plus(end, head.size);
-        blocks = words::plus(blocks, 1);
+        run.end = words::plus(block.start as u32, block.head.size);
+        run.blocks = words::plus(run.blocks, 1);
     }
-    Run { end, blocks }
+    run
 }
 
 // The word at `at` leads to q; it is stored only where it does not yet.
 fn lead(pool: &mut [u8], at: u32, q: u32)
     ensures { pool.new ≡ put_at 4 pool.old at q }
 {
-    if words::get32(pool, at as usize) == q {
+    if words::get::<u32>(pool, at as usize) == q {
         return;
     }
-    words::put32(pool, at as usize, q);
+    words::put(pool, at as usize, q);
 }
 
 // The list whose first member stands at `first`, without what lies below `edge`. `at` is the word that leads on from what stays so far.
@@ -54,10 +52,9 @@ fn lead(pool: &mut [u8], at: u32, q: u32)
 fn prune(pool: &mut [u8], first: u32, edge: u32)
     ensures { pool.new ≡ pruned pool.old first edge }
 {
-    let mut left = pool.len() / 8;
     let mut at = first;
-    let mut q = words::get32(pool, first as usize);
-    while left != 0 {
+    let mut q = words::get::<u32>(pool, first as usize);
+    for _ in 0..pool.len() / 8 {
         if q == 0 {
             lead(pool, at, 0);
             return;
@@ -68,7 +65,6 @@ fn prune(pool: &mut [u8], first: u32, edge: u32)
             at = words::plus(q, SMALL_NEXT);
         }
         q = next;
-        left -= 1;
     }
 }
 
@@ -76,10 +72,8 @@ fn prune(pool: &mut [u8], first: u32, edge: u32)
 fn prune_all(pool: &mut [u8], edge: u32)
     ensures { pool.new ≡ pruned_from 8 pool.old 32 edge }
 {
-    let mut first = SMALL_BINS + 8;
-    while first != FALSE_BLOCK {
+    for first in (SMALL_BINS + 8..FALSE_BLOCK).step_by(8) {
         prune(pool, first, edge);
-        first += 8;
     }
 }
 
@@ -91,9 +85,9 @@ pub fn go_home(pool: &mut [u8], from: u32) -> u32
     if run.blocks != 0 {
         prune_all(pool, run.end);
     }
-    let start = words::get32(pool, START);
-    words::put32(pool, END, run.end);
-    words::put32(
+    let start = words::get::<u32>(pool, START);
+    words::put(pool, END, run.end);
+    words::put(
         pool,
         start as usize,
         heads::free_head(words::minus(run.end, start)),

@@ -7,6 +7,7 @@ ghost use Rattle.paper.specs.Allowed.{allowed as allowed_of};
 ghost use Rattle.inspect.specs.Inspection.{edge_held, old_inspected};
 ghost use Rattle.inspect.specs.Contract.{OldInspected};
 
+use heads::Head;
 use paper::{END, FREE_WORD, START};
 
 // Whether a pool may have n bytes.
@@ -33,11 +34,11 @@ pub fn sound_by_old_rule(pool: &[u8]) -> bool
 pub fn edge_held(pool: &[u8]) -> bool
     ensures { result ≡ edge_held pool.now }
 {
-    let e = words::get32(pool, END) as usize;
+    let e = words::get::<u32>(pool, END) as usize;
     if e == pool.len() {
         return true;
     }
-    heads::apart(words::get32(pool, e)).held
+    Head::from(words::get::<u32>(pool, e)).held
 }
 
 // The tests of the old rule, the cheap ones first. A mark is one bit for each 8 bytes of the pool.
@@ -47,8 +48,8 @@ fn inspect(pool: &[u8]) -> bool
     if !allowed(pool.len()) {
         return false;
     }
-    let a = words::get32(pool, START);
-    let b = words::get32(pool, END);
+    let a = words::get::<u32>(pool, START);
+    let b = words::get::<u32>(pool, END);
     if !header::remainder_ok(pool, a, b) {
         return false;
     }
@@ -56,12 +57,11 @@ fn inspect(pool: &[u8]) -> bool
         return false;
     }
     let mut m = [0u64; 128];
-    let t = runs::scan_both(pool, &mut m, a, b, pool.len() as u32);
-    if !t.ok {
+    let Some(seen) = runs::scan_both(pool, &mut m, a, b, pool.len() as u32) else {
+        return false;
+    };
+    if words::get::<u32>(pool, FREE_WORD) as usize != seen.sum + (b - a) as usize - 4 {
         return false;
     }
-    if words::get32(pool, FREE_WORD) as usize != t.sum + (b - a) as usize - 4 {
-        return false;
-    }
-    lists::all_listed(pool, &mut m, t.count)
+    lists::all_listed(pool, &mut m, seen.count)
 }

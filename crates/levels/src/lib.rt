@@ -16,9 +16,10 @@ pub fn top(pool: &[u8]) -> u32
     ensures { result ≡ top_of pool.now }
 {
     if words::field(pool, FALSE_BLOCK, LEVEL) == LEVELS {
-        return LEVELS;
+        LEVELS
+    } else {
+        1
     }
-    1
 }
 
 // Up to which level the bin of a size stands in an index `top` high: 1 and the trailing zero bits of size / 8, at most `top`.
@@ -28,21 +29,14 @@ pub fn height(top: u32, size: u32) -> u32
     if top == 1 {
         return 1;
     }
-    let zeros = u32::trailing_zeros(size / 8);
-    if zeros < top {
-        return zeros + 1;
-    }
-    top
+    top.min((size / 8).trailing_zeros() + 1)
 }
 
 // Where the word of a level stands in a first block: level 1's is the chain word, and each higher one 4 bytes before. No level is above 17.
 pub fn word(level: u32) -> u32
     ensures { result ≡ word_of level }
 {
-    if 17 < level {
-        return 0;
-    }
-    CHAIN + 4 - 4 * level
+    if 17 < level { 0 } else { CHAIN + 4 - 4 * level }
 }
 
 // The level to look for a bin from: the least size on level j is 8 × 2^(j - 1), so no smaller bin stands higher.
@@ -52,12 +46,6 @@ pub fn start(top: u32, size: u32) -> u32
     if top == 1 {
         return 1;
     }
-    let bits = 32 - u32::leading_zeros(size / 8);
-    if bits == 0 {
-        return top;
-    }
-    if top < bits {
-        return top;
-    }
-    bits
+    let bits = 32 - (size / 8).leading_zeros();
+    if bits == 0 { top } else { top.min(bits) }
 }

@@ -1,40 +1,17 @@
--- The text of a line is put piece by piece: what each piece adds to the page, and how long a line can be.
-use mathlib.Core.Path.{◌≡◌, refl, ◌∙◌}
+-- A line is put piece by piece: its head, each number after a space, the line's end; and how long it can be.
+use mathlib.Core.Path.{◌≡◌}
 use mathlib.Core.List.{List, [], ◌∷◌}
 use Prim.Native.Nat.{ℕ, ◌+◌, ◌*◌, ◌≤◌, ◌<◌}
 use native.Mathlib.Omega.{arith}
-use lib.ListN.{length, length-append}
-use Rattle.text.specs.Page.{Page, put_one, put}
+use lib.ListN.{length, length-append, get_or, drop}
+use Rattle.std.proofs.lemmas.List.{drop_more, drop_all}
+use Rattle.text.specs.declared.Page.{Page as Lent}
+use Rattle.text.specs.Lent.{Puts}
 use Rattle.text.specs.Numeral.{numeral}
-use Rattle.text.proofs.Page.{put-append}
+use Rattle.text.proofs.Putting.{puts-append}
 use Rattle.text.proofs.Digits.{numeral-length}
 use Rattle.lines.specs.Lines.{space, newline, begin_of, rest_of, line_of}
-
--- ---- the page
-
-pub begin-line : (p : Page) (nth letter : ℕ) (numbers : List ℕ)
-    → put p (line_of nth letter numbers) ≡ put (put p (begin_of nth letter)) (rest_of numbers)
-unfolding line_of
-begin-line p nth letter numbers = put-append p (begin_of nth letter) (rest_of numbers)
-
-pub rest_more : (p : Page) (v : ℕ) (vs : List ℕ) → put p (rest_of (v ∷ vs)) ≡ put (put p (space ∷ numeral v)) (rest_of vs)
-unfolding rest_of
-rest_more p v vs = put-append p (space ∷ numeral v) (rest_of vs)
-
-pub rest-none : (p : Page) → put p (rest_of []) ≡ put_one p newline
-unfolding rest_of put
-rest-none p = refl
-
-pub ruleset pieces = (begin-line, rest_more, rest-none)
-
--- the line of figures: its number and letter, the 0, and the figures
-pub figures-line : (p : Page) {q r s : Page} (nth letter : ℕ) (figures : List ℕ)
-    → put p (begin_of nth letter) ≡ q
-    → put q (space ∷ numeral 0) ≡ r
-    → put r (rest_of figures) ≡ s
-    → put p (line_of nth letter (0 ∷ figures)) ≡ s
-figures-line p nth letter figures e f g =
-    begin-line p nth letter (0 ∷ figures) ∙ rest_more (put p (begin_of nth letter)) 0 figures ∙ rw (e, f) g
+use Rattle.lines.specs.Printed.{Printed}
 
 -- ---- the length
 
@@ -68,3 +45,23 @@ line-short nth letter refusal values h i a l =
       numeral-length 9 nth (omega arith),
       numeral-length 2 refusal (omega arith),
     )
+
+-- ---- the page
+
+-- a number more, at the head of those that are left
+pub rest-more : {p q r last : Lent} (numbers : List ℕ) (i : ℕ) → i < length numbers → Puts p (space ∷ []) q → Puts q (numeral (get_or numbers i 0)) r
+    → Puts r (rest_of (drop (i + 1) numbers)) last
+    → Puts p (rest_of (drop i numbers)) last
+unfolding rest_of
+rest-more numbers i h a b e = rw (drop_more numbers i 0 h) (puts-append (puts-append a b) e)
+
+-- none left
+pub rest-none : {p last : Lent} (numbers : List ℕ) (i : ℕ) → length numbers ≤ i → Puts p (newline ∷ []) last → Puts p (rest_of (drop i numbers)) last
+unfolding rest_of
+rest-none numbers i h a = rw (drop_all i numbers h) a
+
+-- a line is its head and the rest
+pub line-printed : {p q r : Lent} (nth letter refusal : ℕ) (values : List ℕ) → Puts p (begin_of nth letter) q → Puts q (rest_of (refusal ∷ values)) r
+    → nth < 4294967296 → refusal < 256 → All32 values → length values ≤ 7 → Printed p (line_of nth letter (refusal ∷ values)) r
+unfolding line_of
+line-printed nth letter refusal values a b h i l m = record { same = puts-append a b; short = line-short nth letter refusal values h i l m }

@@ -1,13 +1,9 @@
 -- "Each line: record number from 1, letter L, T, G, S or X, refusal number, value (for S done: the seven figures)."
 -- "Tape kind 5 lays out layout 2, 4-byte body, letter M" (request 2026-04).
-use Rattle.std.specs.Prelude.{◌≡◌, List, [], ◌∷◌, ◌++◌, ℕ, ◌≤◌, length}
-use Rattle.paper.specs.Answers.{number, seven_of, value}
-use Rattle.paper.specs.declared.Answer.{Answer}
-use Rattle.paper.specs.declared.Tally.{Tally}
-use Rattle.paper.specs.declared.Tally.TheVariants.{Counted, Refused}
+use Rattle.std.specs.Prelude.{Ok, Err, List, [], ◌∷◌, ◌++◌, ℕ}
+use Rattle.paper.specs.Answers.{Answer, Tally, code, number, seven_of, value}
 use Rattle.records.specs.declared.request.Request.{Request}
 use Rattle.records.specs.declared.request.Request.TheVariants.{LayOut, LayOutIndexed, Take, GiveBack, Figures}
-use Rattle.text.specs.Page.{page, put}
 use Rattle.text.specs.Numeral.{numeral}
 
 abbrev pub space : ℕ
@@ -42,10 +38,5 @@ answered a = number a ∷ value a ∷ []
 
 -- "Refused figures are seven zeros, printed on the tape as one 0."
 abbrev pub tallied : Tally → List ℕ
-tallied (Counted f) = 0 ∷ seven_of f
-tallied (Refused k) = k ∷ 0 ∷ []
-
--- the text was put at a place of some bytes, and is no longer than a line
-pub record Printed (at : ℕ) (before text : List ℕ) (next : ℕ) (after : List ℕ) : Type 0 where
-  pub same : put (page at before) text ≡ page next after
-  pub short : length text ≤ 96
+tallied (Ok f) = 0 ∷ seven_of f
+tallied (Err k) = code k ∷ 0 ∷ []

@@ -1,73 +1,78 @@
 // The lines of a run: "record number from 1, letter, refusal number, value (for S done: the seven figures)", with a space between.
-// Each function puts its text at a place of `out` and answers the next place.
 #![tactic(auto)]
 
-ghost use Rattle.std.specs.Prelude.{◌≡◌, [], ◌∷◌};
-ghost use Rattle.text.specs.Page.{page, put};
-ghost use Rattle.text.specs.Numeral.{numeral};
-ghost use Rattle.lines.specs.Lines.{space, begin_of, rest_of, line_of, answered, tallied, Printed};
-ghost use Rattle.paper.specs.Answers.{seven_of};
+ghost use Rattle.std.specs.Prelude.{[], ◌∷◌};
+ghost use Rattle.text.specs.Lent.{Puts};
+ghost use Rattle.lines.specs.Lines.{begin_of, rest_of, line_of, answered, tallied};
+ghost use Rattle.lines.specs.Printed.{Printed};
 
-use paper::{Answer, Figures, Tally};
+use paper::{Figures, Refusal};
+use text::Page;
 
-// The record's number and letter.
-fn begin(out: &mut [u8], at: usize, nth: u32, letter: u8) -> usize
-    ensures { put (page at out.old) (begin_of nth letter) ≡ page result out.new }
-{
-    let a = text::numeral(out, at, nth);
-    let b = text::put_one(out, a, b' ');
-    text::put_one(out, b, letter)
+// How a line begins: the number of its record, and a letter.
+#[derive(Clone, Copy, Debug, PartialEq, Eq)]
+pub struct Head {
+    pub nth: u32,
+    pub letter: u8,
 }
 
-// A space and a number.
-fn number(out: &mut [u8], at: usize, v: u32) -> usize
-    ensures { put (page at out.old) (space ∷ numeral v) ≡ page result out.new }
-{
-    let a = text::put_one(out, at, b' ');
-    text::numeral(out, a, v)
-}
-
-pub fn line(out: &mut [u8], at: usize, nth: u32, letter: u8, refusal: u8, value: u32) -> usize
-    ensures { Printed at out.old (line_of nth letter (refusal ∷ value ∷ [])) result out.new }
-{
-    let a = begin(out, at, nth, letter);
-    let b = number(out, a, refusal as u32);
-    let c = number(out, b, value);
-    text::put_one(out, c, b'\n')
-}
-
-pub fn answer(out: &mut [u8], at: usize, nth: u32, letter: u8, a: Answer) -> usize
-    ensures { Printed at out.old (line_of nth letter (answered a)) result out.new }
-{
-    match a {
-        Answer::Done(value) => line(out, at, nth, letter, 0, value),
-        Answer::Refused(refusal) => line(out, at, nth, letter, refusal, 0),
+impl Head {
+    fn begin(self, page: &mut Page)
+        ensures { Puts page.old (begin_of self.nth self.letter) page.new }
+    {
+        page.numeral(self.nth);
+        page.put(&[b' ', self.letter]);
     }
-}
 
-// The seven figures, each after a space, and the line's end.
-fn seven(out: &mut [u8], at: usize, f: Figures) -> usize
-    ensures { put (page at out.old) (rest_of (seven_of f)) ≡ page result out.new }
-{
-    let a = number(out, at, f.held_blocks);
-    let b = number(out, a, f.held_bytes);
-    let c = number(out, b, f.free_small);
-    let d = number(out, c, f.free_large);
-    let e = number(out, d, f.remainder);
-    let g = number(out, e, f.free_word);
-    let h = number(out, g, f.largest);
-    text::put_one(out, h, b'\n')
-}
+    // The two numbers as they stand in the line: it prints any two, as it always promised.
+    pub fn line(self, page: &mut Page, refusal: u8, value: u32)
+        ensures { Printed page.old (line_of self.nth self.letter (refusal ∷ value ∷ [])) page.new }
+    {
+        self.begin(page);
+        rest(page, &[refusal as u32, value]);
+    }
 
-pub fn figures(out: &mut [u8], at: usize, nth: u32, letter: u8, t: Tally) -> usize
-    ensures { Printed at out.old (line_of nth letter (tallied t)) result out.new }
-{
-    match t {
-        Tally::Counted(f) => {
-            let a = begin(out, at, nth, letter);
-            let b = number(out, a, 0);
-            seven(out, b, f)
+    pub fn answer(self, page: &mut Page, answer: Result<u32, Refusal>)
+        ensures { Printed page.old (line_of self.nth self.letter (answered answer)) page.new }
+    {
+        match answer {
+            Ok(value) => self.line(page, 0, value),
+            Err(refusal) => self.line(page, u8::from(refusal), 0),
         }
-        Tally::Refused(refusal) => line(out, at, nth, letter, refusal, 0),
     }
+
+    pub fn figures(self, page: &mut Page, tally: Result<Figures, Refusal>)
+        ensures { Printed page.old (line_of self.nth self.letter (tallied tally)) page.new }
+    {
+        match tally {
+            Ok(f) => {
+                self.begin(page);
+                rest(
+                    page,
+                    &[
+                        0,
+                        f.held_blocks,
+                        f.held_bytes,
+                        f.free_small,
+                        f.free_large,
+                        f.remainder,
+                        f.free_word,
+                        f.largest,
+                    ],
+                );
+            }
+            Err(refusal) => self.line(page, u8::from(refusal), 0),
+        }
+    }
+}
+
+// Each number after a space, and the line's end.
+fn rest(page: &mut Page, numbers: &[u32])
+    ensures { Puts page.old (rest_of numbers.now) page.new }
+{
+    for v in numbers {
+        page.put_one(b' ');
+        page.numeral(*v);
+    }
+    page.put_one(b'\n');
 }

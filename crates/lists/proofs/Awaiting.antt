@@ -1,13 +1,12 @@
 -- The index words of a block, level by level: where each way out of the tests leads, and that the loops along the levels go on.
-use mathlib.Core.Bool.{Bool, false, not, true}
+use mathlib.Core.Bool.{Bool, false, true}
 use mathlib.Core.List.{List, [], ◌∷◌}
 use mathlib.Core.Path.{◌∙◌, ◌≡◌, ap, refl, sym}
 use Prim.Native.Nat.{◌+◌, ◌-◌, ◌<◌, ◌≤◌, suc, zero, ℕ}
 use native.Mathlib.Omega.{arith}
 use lib.Dec.{eqb}
 use lib.ListN.{get_or, set}
-use borrow.Author.Tests.{not-false}
-use Rattle.guards.proofs.Guards.{guard-fail, guard-yes, off, pass-no}
+use Rattle.guards.proofs.Guards.{guard-fail, guard-yes, no_both, pass-no}
 use Rattle.guards.specs.Tests.{less, pass, same}
 use Rattle.header.proofs.Laws.{link-true, true-link}
 use Rattle.heads.specs.Links.{followed, link_word}
@@ -104,32 +103,32 @@ module _ {s ws₀ : List ℕ} {h f : ℕ} {ws : List ℕ} {level : ℕ} (g : Cli
       there : w ≡ word_at 4 s (f + word_of level)
       there = ew ∙ ap (λ (k : ℕ). word_at 4 s (f + k)) eo
 
-      pub no-link-there : not b ≡ true → astray ≡ climbed s h f ws₀
+      pub no-link-there : b ≡ false → astray ≡ climbed s h f ws₀
       no-link-there n =
           sym (step ∙ climb-bad s (suc h - (level + 1)) level f ws
-          (sym (pass-no (same (get_or ws (level - 2) 0) f ∷ link_test s level f ∷ []) (λ t. off (true-link f eb there t.1.0) n))))
+          (sym (pass-no (same (get_or ws (level - 2) 0) f ∷ link_test s level f ∷ []) (λ t. no_both (sym n ∙ true-link f eb there t.1.0)))))
 
-      pub climbs : {v : ℕ} {ws' : List ℕ} → get_or ws (level - 2) 0 ≡ f → not b ≡ false → v ≡ followed f w → ws' ≡ set ws (level - 2) v
+      pub climbs : {v : ℕ} {ws' : List ℕ} → get_or ws (level - 2) 0 ≡ f → b ≡ true → v ≡ followed f w → ws' ≡ set ws (level - 2) v
           → Climbing s ws₀ h f ws' (level + 1)
       climbs {v} {ws'} a n ev es =
           record {
             low = omega (arith, g.low);
-            all = sym bounded ∙ step ∙ climb-on s (suc h - (level + 1)) level f ws a (link-true f eb there (not-false _ n))
+            all = sym bounded ∙ step ∙ climb-on s (suc h - (level + 1)) level f ws a (link-true f eb there n)
                 ∙ ap (climb s (suc h - (level + 1)) (level + 1) f) (ap (set ws (level - 2)) (ap (followed f) (sym there) ∙ sym ev) ∙ sym es);
           }
 
 -- ---- the whole of a block's index words, by the chain word and the levels above
 
 module _ (s : List ℕ) (h f : ℕ) (ws : List ℕ) {w : ℕ} {b : Bool} (ew : w ≡ word_at 4 s (f + chain_at)) (eb : b ≡ eqb w (link_word f (followed f w))) where
-  pub no-chain-link : not b ≡ true → astray ≡ indexed s h f ws
+  pub no-chain-link : b ≡ false → astray ≡ indexed s h f ws
   unfolding indexed
   no-chain-link n =
-      sym (guard-fail (link_test s 1 f ∷ []) astray _ (sym (pass-no (link_test s 1 f ∷ []) (λ t. off (true-link f eb ew t.0) n))))
+      sym (guard-fail (link_test s 1 f ∷ []) astray _ (sym (pass-no (link_test s 1 f ∷ []) (λ t. no_both (sym n ∙ true-link f eb ew t.0)))))
 
-  module _ (n : not b ≡ false) where
+  module _ (n : b ≡ true) where
     pub on-climbed : {x : Awaited} → x ≡ climbed s h f ws → x ≡ indexed s h f ws
     unfolding indexed
-    on-climbed ex = ex ∙ sym (guard-yes (link_test s 1 f ∷ []) astray _ (link-true f eb ew (not-false _ n), tt))
+    on-climbed ex = ex ∙ sym (guard-yes (link_test s 1 f ∷ []) astray _ (link-true f eb ew n, tt))
 
     pub one-level : h ≡ 1 → awaiting ws ≡ indexed s h f ws
     unfolding climbed climb

@@ -1,21 +1,20 @@
 -- The loop along level 1 of the index: where each way out leads, and that it goes on. Each bin that was followed took a mark, so it ends.
-use mathlib.Core.Bool.{Bool, false, not, true}
+use mathlib.Core.Bool.{Bool, false, true}
 use mathlib.Core.List.{List, [], ◌∷◌}
 use mathlib.Core.Path.{◌∙◌, ◌≡◌, ap, refl, sym}
 use Prim.Native.Nat.{◌+◌, ◌-◌, ◌/◌, ◌<◌, ◌≤◌, suc, zero, ℕ}
 use native.Mathlib.Omega.{arith}
 use lib.ListN.{length, replicate}
-use borrow.Author.Tests.{not-false, not-true}
+use Rattle.std.proofs.Common.{Option, Some, None}
 use Rattle.heads.specs.Heads.{size_at}
 use Rattle.heads.specs.Links.{followed}
 use Rattle.guards.proofs.Guards.{guard-inv, pass-is, pass-no}
 use Rattle.guards.specs.Tests.{Test, holds, less, pass, same}
 use Rattle.levels.specs.Levels.{top_of}
 use Rattle.lists.proofs.Following.{lost-left}
-use Rattle.lists.specs.Contract.{pick_left, to_awaited, to_left}
+use Rattle.lists.specs.Contract.{to_awaited, to_left}
 use Rattle.lists.specs.Index.{Awaited, astray, awaiting, ended, false_indexed, first_indexed, if_awaiting, indexed, next_on}
 use Rattle.lists.specs.Lists.{Left, chain, follow, if_left, large_tests, left, lists, lost, next_large, smalls}
-use Rattle.lists.specs.declared.Left.{Left as Answer}
 use Rattle.marks.specs.MarkSets.{bit_marks, mark_at}
 use Rattle.marks.specs.Marks.{put_bit_at}
 use Rattle.paper.specs.Layout.{chain_at, false_block, levels}
@@ -96,67 +95,67 @@ module _ {t : ℕ} {s m₀ ws₀ : List ℕ} {k f0 : ℕ} {m ws : List ℕ} {n y
 
   -- what the tests of the first block f, of size z, answered
   module _ (ne : f ≡ 0 → ⊥) {z : ℕ} (ez : z ≡ size_at s f) (b : Bool) (ws' : List ℕ) (eb : to_awaited b ws' ≡ first_indexed s t y z f ws) where
-    pub chain-bad : not b ≡ true → false ≡ All-bins
+    pub chain-bad : b ≡ false → false ≡ All-bins
     chain-bad i =
-        sym (g.all ∙ chain-astray t s m g.fuel n y f z ws ne ez (ap (λ (v : Bool). to_awaited v ws') (sym (not-true b i)) ∙ eb))
+        sym (g.all ∙ chain-astray t s m g.fuel n y f z ws ne ez (ap (λ (v : Bool). to_awaited v ws') (sym i) ∙ eb))
 
     -- and its list, which was followed
-    module _ (i : not b ≡ false) (r : Answer) (m' : List ℕ) (ex : to_left r m' ≡ follow bit_marks (large_tests s z) (next_large s) n m 0 f) where
+    module _ (i : b ≡ true) (r : Option ℕ) (m' : List ℕ) (ex : to_left r m' ≡ follow bit_marks (large_tests s z) (next_large s) n m 0 f) where
       abbrev on-bins : Left (List ℕ) → Bool
       on-bins x = if_left x false (λ k' ms'. chain bit_marks t s (g.fuel - 1) k' ms' z (next_on s 1 f) ws')
 
       chain-step : All-bins ≡ on-bins (to_left r m')
       chain-step =
           g.all ∙ ap (λ (x : ℕ). chain bit_marks t s x n m y f ws) (omega (arith, g.enough))
-          ∙ chain_next t s m (g.fuel - 1) n y f z ws ws' ne ez (ap (λ (v : Bool). to_awaited v ws') (sym (not-false b i)) ∙ eb) (to_left r m') ex
+          ∙ chain_next t s m (g.fuel - 1) n y f z ws ws' ne ez (ap (λ (v : Bool). to_awaited v ws') (sym i) ∙ eb) (to_left r m') ex
 
-      pub chain-lost : not r.ok ≡ true → false ≡ All-bins
-      chain-lost j = sym (chain-step ∙ ap (λ (c : Bool). on-bins (pick_left c r.left m')) (not-true r.ok j))
+      pub chain-lost : r ≡ None → false ≡ All-bins
+      chain-lost j = sym (chain-step ∙ ap (λ (v : Option ℕ). on-bins (to_left v m')) j)
 
-      pub bin-less : not r.ok ≡ false → r.left < n
-      bin-less h =
-          follow-lt (large_tests s z) (next_large s) n m 0 f r.left m' ne
-          (sym ex ∙ ap (λ (c : Bool). pick_left c r.left m') (not-false r.ok h))
+      module _ {n' : ℕ} (j : r ≡ Some n') where
+        pub bin-less : n' < n
+        bin-less =
+            follow-lt (large_tests s z) (next_large s) n m 0 f n' m' ne (sym ex ∙ ap (λ (v : Option ℕ). to_left v m') j)
 
-      pub chain-on : {x u : ℕ} → not r.ok ≡ false → length m' ≡ length m → u ≡ word_at 4 s (f + chain_at) → x ≡ followed f u → x < 4294967296
-          → Chained t s m₀ ws₀ k f0 m' ws' r.left z x
-      chain-on {x} j lm eu et ts =
-          record {
-            long = lm ∙ g.long;
-            small = ts;
-            fuel = g.fuel - 1;
-            enough = omega (arith, g.enough, bin-less j);
-            all = chain-step ∙ ap (λ (c : Bool). on-bins (pick_left c r.left m')) (not-false r.ok j)
-                ∙ ap (λ (v : ℕ). chain bit_marks t s (g.fuel - 1) r.left m' z v ws') (sym (et ∙ ap (followed f) eu));
-          }
+        pub chain-on : {x u : ℕ} → length m' ≡ length m → u ≡ word_at 4 s (f + chain_at) → x ≡ followed f u → x < 4294967296
+            → Chained t s m₀ ws₀ k f0 m' ws' n' z x
+        chain-on {x} lm eu et ts =
+            record {
+              long = lm ∙ g.long;
+              small = ts;
+              fuel = g.fuel - 1;
+              enough = omega (arith, g.enough, bin-less);
+              all = chain-step ∙ ap (λ (v : Option ℕ). on-bins (to_left v m')) j
+                  ∙ ap (λ (v : ℕ). chain bit_marks t s (g.fuel - 1) n' m' z v ws') (sym (et ∙ ap (followed f) eu));
+            }
 
 -- ---- all of them
 
-module _ (s m m' : List ℕ) (k : ℕ) (r : Answer) (e : to_left r m' ≡ smalls bit_marks s 8 8 k m) where
+module _ (s m m' : List ℕ) (k : ℕ) (r : Option ℕ) (e : to_left r m' ≡ smalls bit_marks s 8 8 k m) where
   abbrev on-index : ℕ → List ℕ → Awaited → Bool
   on-index k' ms' v = if_awaiting v false (λ ws. chain bit_marks (top_of s) s (suc k') k' ms' 64 (next_on s 1 false_block) ws)
 
   abbrev on_chain : Left (List ℕ) → Bool
   on_chain v = if_left v false (λ k' ms'. on-index k' ms' (false_indexed s))
 
-  pub lists-lost : not r.ok ≡ true → false ≡ lists bit_marks s k m
+  pub lists-lost : r ≡ None → false ≡ lists bit_marks s k m
   unfolding lists
-  lists-lost h = sym (ap on_chain (sym e) ∙ ap (λ (c : Bool). on_chain (pick_left c r.left m')) (not-true r.ok h))
+  lists-lost h = sym (ap on_chain (sym e) ∙ ap (λ (v : Option ℕ). on_chain (to_left v m')) h)
 
-  module _ (h : not r.ok ≡ false) {t : ℕ} (et : t ≡ top_of s) (b : Bool) (ws : List ℕ)
+  module _ {n : ℕ} (h : r ≡ Some n) {t : ℕ} (et : t ≡ top_of s) (b : Bool) (ws : List ℕ)
       (eb : to_awaited b ws ≡ indexed s t false_block (replicate (levels - 1) false_block)) where
-    lists_at : lists bit_marks s k m ≡ on-index r.left m' (to_awaited b ws)
+    lists_at : lists bit_marks s k m ≡ on-index n m' (to_awaited b ws)
     unfolding lists
     lists_at =
-        ap on_chain (sym e) ∙ ap (λ (c : Bool). on_chain (pick_left c r.left m')) (not-false r.ok h)
-        ∙ ap (on-index r.left m') (ap (λ (v : ℕ). indexed s v false_block (replicate (levels - 1) false_block)) (sym et) ∙ sym eb)
+        ap on_chain (sym e) ∙ ap (λ (v : Option ℕ). on_chain (to_left v m')) h
+        ∙ ap (on-index n m') (ap (λ (v : ℕ). indexed s v false_block (replicate (levels - 1) false_block)) (sym et) ∙ sym eb)
 
-    pub lists-astray : not b ≡ true → false ≡ lists bit_marks s k m
-    lists-astray i = sym (lists_at ∙ ap (λ (v : Bool). on-index r.left m' (to_awaited v ws)) (not-true b i))
+    pub lists-astray : b ≡ false → false ≡ lists bit_marks s k m
+    lists-astray i = sym (lists_at ∙ ap (λ (v : Bool). on-index n m' (to_awaited v ws)) i)
 
-    pub lists-on : {w f : ℕ} {x : Bool} → not b ≡ false → w ≡ word_at 4 s (false_block + chain_at) → f ≡ followed false_block w
-        → x ≡ chain bit_marks t s (suc r.left) r.left m' 64 f ws → x ≡ lists bit_marks s k m
+    pub lists-on : {w f : ℕ} {x : Bool} → b ≡ true → w ≡ word_at 4 s (false_block + chain_at) → f ≡ followed false_block w
+        → x ≡ chain bit_marks t s (suc n) n m' 64 f ws → x ≡ lists bit_marks s k m
     lists-on {f = f} i ew ef ex =
-        ex ∙ ap (λ (v : ℕ). chain bit_marks v s (suc r.left) r.left m' 64 f ws) et
-        ∙ ap (λ (v : ℕ). chain bit_marks (top_of s) s (suc r.left) r.left m' 64 v ws) (ef ∙ ap (followed false_block) ew)
-        ∙ sym (lists_at ∙ ap (λ (v : Bool). on-index r.left m' (to_awaited v ws)) (not-false b i))
+        ex ∙ ap (λ (v : ℕ). chain bit_marks v s (suc n) n m' 64 f ws) et
+        ∙ ap (λ (v : ℕ). chain bit_marks (top_of s) s (suc n) n m' 64 v ws) (ef ∙ ap (followed false_block) ew)
+        ∙ sym (lists_at ∙ ap (λ (v : Bool). on-index n m' (to_awaited v ws)) i)

@@ -1,17 +1,15 @@
 -- The loop over the eight small bins: where each way out leads, and that it goes on.
-use mathlib.Core.Bool.{Bool, false, not, true}
 use mathlib.Core.List.{List}
 use mathlib.Core.Path.{◌∙◌, ◌≡◌, ap, refl, sym}
-use Prim.Native.Nat.{◌*◌, ◌+◌, ◌-◌, suc, zero, ℕ}
+use Prim.Native.Nat.{◌*◌, ◌+◌, ◌-◌, ◌<◌, ◌≤◌, suc, zero, ℕ}
 use native.Mathlib.Omega.{arith}
 use lib.ListN.{length}
-use borrow.Author.Tests.{not-false, not-true}
-use Rattle.lists.specs.Contract.{pick_left, to_left}
+use Rattle.std.proofs.Common.{Option, Some, None}
+use Rattle.lists.specs.Contract.{to_left}
 use Rattle.lists.specs.Lists.{Left, follow, if_left, left, lost, next_small, small_tests, smalls}
 use Rattle.marks.specs.MarkSets.{bit_marks}
 use Rattle.paper.specs.Layout.{large, small_bins}
 use Rattle.words.specs.Words.{word_at}
-use Rattle.lists.specs.declared.Left.{Left as Answer}
 
 pub record Bins (s m₀ : List ℕ) (k : ℕ) (m : List ℕ) (n z : ℕ) : Type 0 where
   pub long : length m ≡ length m₀
@@ -35,10 +33,10 @@ bins-next s m c z n f e x h =
     (ap (follow bit_marks (small_tests s z) (next_small s) n m 0) (sym e) ∙ sym h)
 
 module _ {s m₀ : List ℕ} {k : ℕ} {m : List ℕ} {n z : ℕ} (g : Bins s m₀ k m n z) where
-  pub bins-done : z ≡ large → left n m ≡ smalls bit_marks s 8 8 k m₀
+  pub bins-done : large ≤ z → left n m ≡ smalls bit_marks s 8 8 k m₀
   bins-done e = sym (g.all ∙ bins-end s m g.fuel z n (omega (arith, g.due)))
 
-  module _ (ne : z ≡ large → ⊥) {f : ℕ} (ef : f ≡ word_at 4 s (z + small_bins)) (r : Answer) (m' : List ℕ)
+  module _ (lt : z < large) {f : ℕ} (ef : f ≡ word_at 4 s (z + small_bins)) (r : Option ℕ) (m' : List ℕ)
       (ex : to_left r m' ≡ follow bit_marks (small_tests s z) (next_small s) n m 0 f) where
     abbrev on : Left (List ℕ) → Left (List ℕ)
     on v = if_left v lost (λ k' ms'. smalls bit_marks s (g.fuel - 1) (z + 8) k' ms')
@@ -47,14 +45,14 @@ module _ {s m₀ : List ℕ} {k : ℕ} {m : List ℕ} {n z : ℕ} (g : Bins s m�
     bins-step =
         g.all ∙ ap (λ (v : ℕ). smalls bit_marks s v z n m) (omega (arith, g.due)) ∙ bins-next s m (g.fuel - 1) z n f ef (to_left r m') ex
 
-    pub bins-lost : not r.ok ≡ true → lost ≡ smalls bit_marks s 8 8 k m₀
-    bins-lost h = sym (bins-step ∙ ap (λ (c : Bool). on (pick_left c r.left m')) (not-true r.ok h))
+    pub bins-lost : r ≡ None → lost ≡ smalls bit_marks s 8 8 k m₀
+    bins-lost h = sym (bins-step ∙ ap (λ (v : Option ℕ). on (to_left v m')) h)
 
-    pub bins-on : not r.ok ≡ false → length m' ≡ length m → Bins s m₀ k m' r.left (z + 8)
+    pub bins-on : {left' : ℕ} → r ≡ Some left' → length m' ≡ length m → Bins s m₀ k m' left' (z + 8)
     bins-on h lm =
         record {
           long = lm ∙ g.long;
           fuel = g.fuel - 1;
           due = omega (arith, g.due);
-          all = bins-step ∙ ap (λ (c : Bool). on (pick_left c r.left m')) (not-false r.ok h);
+          all = bins-step ∙ ap (λ (v : Option ℕ). on (to_left v m')) h;
         }

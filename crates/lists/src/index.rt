@@ -1,6 +1,7 @@
 // The index over the bins, read along its lowest level. `waits` has for each level above, from 2 on, the start that must come next: a first block
 // must be the one that each of its levels awaits, and then each awaits what the block's word of that level leads to. Level 1 awaits the block at
 // hand, so there is nothing to keep for it, and in layout 1 nothing at all.
+// `waits` and `top` are no struct: to spare two functions a parameter, each step that changes `waits` would have to promise that `top` stays.
 ghost use Rattle.std.specs.Prelude.{◌≡◌, ◌-◌};
 ghost use Rattle.paper.specs.Layout.{levels};
 ghost use Rattle.lists.specs.Contract.{to_awaited};
@@ -38,14 +39,14 @@ pub fn index_ok(pool: &[u8], waits: &mut [u32; HIGHER], h: u32, f: u32) -> bool
 }
 
 // Levels 2 to h: each awaits the block f, whose word there is a link to the next. No level is above 13.
+// (`2..=h` would ask once more on each level: 0.8 in 100 instructions of an inspection where many bins are in layout 2.)
 fn higher_ok(pool: &[u8], waits: &mut [u32; HIGHER], h: u32, f: u32) -> bool
     ensures { to_awaited result waits.new ≡ climbed pool.now h f waits.old }
 {
     if LEVELS < h {
         return false;
     }
-    let mut level: u32 = 2;
-    while level <= h {
+    for level in 2..h + 1 {
         let i = (level - 2) as usize;
         if waits[i] != f {
             return false;
@@ -55,7 +56,6 @@ fn higher_ok(pool: &[u8], waits: &mut [u32; HIGHER], h: u32, f: u32) -> bool
             return false;
         }
         waits[i] = heads::follow(f, w);
-        level += 1;
     }
     true
 }
@@ -74,12 +74,10 @@ pub fn ended_ok(waits: &[u32; HIGHER], top: u32) -> bool
 fn none_awaited(waits: &[u32; HIGHER]) -> bool
     ensures { result ≡ nothing (levels - 1) 0 waits.now }
 {
-    let mut i: usize = 0;
-    while i < HIGHER {
-        if waits[i] != 0 {
+    for &start in waits {
+        if start != 0 {
             return false;
         }
-        i += 1;
     }
     true
 }

@@ -10,10 +10,7 @@ ghost use Rattle.marks.specs.MarkSets.{bit_marks};
 pub fn marked(m: &[u64], q: u32) -> bool
     ensures { result ≡ ltb 0 (bit_marks.has m.now q) }
 {
-    if q % 8 == 0 {
-        return has(m, (q / 8) as usize);
-    }
-    false
+    q % 8 == 0 && has(m, (q / 8) as usize)
 }
 
 // Marks the start q.
@@ -35,11 +32,7 @@ fn has(s: &[u64], i: usize) -> bool
     ensures { result ≡ eqb (bit_at s.now i) 1 }
 {
     let q = i / 64;
-    if q < s.len() {
-        (s[q] >> (i % 64)) % 2 == 1
-    } else {
-        false
-    }
+    q < s.len() && (s[q] >> (i % 64)) % 2 == 1
 }
 
 // Sets bit i.
@@ -48,7 +41,7 @@ fn put_in(s: &mut [u64], i: usize)
 {
     let q = i / 64;
     if q < s.len() {
-        s[q] = s[q] | (1 << (i % 64));
+        s[q] |= 1 << (i % 64);
     }
 }
 
@@ -58,7 +51,6 @@ fn take_out(s: &mut [u64], i: usize)
 {
     let q = i / 64;
     if q < s.len() {
-        let w = s[q];
-        s[q] = w - (w & (1 << (i % 64)));
+        s[q] -= s[q] & (1 << (i % 64));
     }
 }

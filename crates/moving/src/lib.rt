@@ -15,6 +15,7 @@ use paper::{CHAIN, FALSE_BLOCK, LEVEL, LEVELS};
 pub fn move_to(pool: &mut [u8], top: u32)
     ensures { pool.new ≡ moved pool.old top }
 {
+    // Parted from the pool: a struct that borrows the pool beside them would be taken apart for each store.
     let mut lasts = [FALSE_BLOCK; HIGHER];
     pass(pool, &mut lasts, top);
     close(pool, &lasts);
@@ -46,13 +47,11 @@ fn stand(pool: &mut [u8], lasts: &mut [u32; HIGHER], h: u32, f: u32)
         return;
     }
     words::put_field(pool, f, LEVEL, h);
-    let mut level: u32 = 2;
-    while level <= h {
+    for level in 2..=h {
         let i = (level - 2) as usize;
         let last = lasts[i];
         words::put_field(pool, last, levels::word(level), heads::link_word(last, f));
         lasts[i] = f;
-        level += 1;
     }
 }
 
@@ -60,9 +59,7 @@ fn stand(pool: &mut [u8], lasts: &mut [u32; HIGHER], h: u32, f: u32)
 fn close(pool: &mut [u8], lasts: &[u32; HIGHER])
     ensures { pool.new ≡ closed (levels - 1) 2 lasts.now pool.old }
 {
-    let mut level: u32 = 2;
-    while level <= LEVELS {
+    for level in 2..=LEVELS {
         words::put_field(pool, lasts[(level - 2) as usize], levels::word(level), 0);
-        level += 1;
     }
 }

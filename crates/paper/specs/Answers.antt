@@ -1,43 +1,41 @@
 -- "A refusal returns 0 beside its number and changes nothing." The number and the value of each answer, and what a call leaves.
 use Rattle.std.specs.Prelude.{List, [], ◌∷◌, ℕ}
-use Rattle.paper.specs.declared.Answer.{Answer}
-use Rattle.paper.specs.declared.Answer.TheVariants.{Done, Refused}
+use Rattle.std.specs.declared.result.Result.{Result}
+use Rattle.std.specs.declared.result.Result.TheVariants.{Ok, Err}
 use Rattle.paper.specs.declared.Figures.{Figures}
-use Rattle.paper.specs.declared.Tally.{Tally}
-use Rattle.paper.specs.declared.Tally.TheVariants.{Counted, Refused as Uncounted}
+use Rattle.paper.specs.declared.Refusal.{Refusal}
+use Rattle.paper.specs.declared.Refusal.TheVariants.{ListLength, NoLayout, NoPiston, NoRecord, NoRoom, NoSize, NotAllowed, NotHeld, NotNamed, NotSound, OtherLayout, Unreadable}
+
+-- a call is done, with its value, or refused
+abbrev pub Answer : Type 0
+Answer = Result ℕ Refusal
+
+-- the answer of a call for the figures
+abbrev pub Tally : Type 0
+Tally = Result Figures Refusal
+
+-- "the refusals' numbers"
+abbrev pub code : Refusal → ℕ
+code NotAllowed = 1
+code NotSound = 2
+code NoSize = 3
+code NoRoom = 4
+code NotHeld = 5
+code ListLength = 6
+code Unreadable = 7
+code NoLayout = 8
+code NoPiston = 10
+code NoRecord = 11
+code NotNamed = 12
+code OtherLayout = 13
 
 abbrev pub number : Answer → ℕ
-number (Done v) = 0
-number (Refused k) = k
+number (Ok v) = 0
+number (Err k) = code k
 
 abbrev pub value : Answer → ℕ
-value (Done v) = v
-value (Refused k) = 0
-
--- the refusals
-abbrev pub not_allowed : ℕ
-not_allowed = 1
-
-abbrev pub not_sound : ℕ
-not_sound = 2
-
-abbrev pub no_size : ℕ
-no_size = 3
-
-abbrev pub no_room : ℕ
-no_room = 4
-
-abbrev pub not_held : ℕ
-not_held = 5
-
-abbrev pub list_length : ℕ
-list_length = 6
-
-abbrev pub unreadable : ℕ
-unreadable = 7
-
-abbrev pub no_layout : ℕ
-no_layout = 8
+value (Ok v) = v
+value (Err k) = 0
 
 -- "Refused figures are seven zeros"
 abbrev pub no_figures : Figures
@@ -45,12 +43,12 @@ no_figures =
     record { held_blocks = 0; held_bytes = 0; free_small = 0; free_large = 0; remainder = 0; free_word = 0; largest = 0 }
 
 abbrev pub tally_number : Tally → ℕ
-tally_number (Counted f) = 0
-tally_number (Uncounted k) = k
+tally_number (Ok f) = 0
+tally_number (Err k) = code k
 
 abbrev pub figures_of : Tally → Figures
-figures_of (Counted f) = f
-figures_of (Uncounted k) = no_figures
+figures_of (Ok f) = f
+figures_of (Err k) = no_figures
 
 -- "Held blocks; held bytes (block sizes); free small blocks; free large blocks; remainder size; free word; largest grant."
 abbrev pub seven_of : Figures → List ℕ

@@ -2,15 +2,15 @@
 -- 0 is no offset, and names nothing.
 use Rattle.std.specs.Prelude.{Bool, true, false, List, [], ◌∷◌, ℕ}
 use Rattle.words.specs.Choice.{if=, when}
-use Rattle.paper.specs.declared.Answer.{Answer}
-use Rattle.paper.specs.declared.Answer.TheVariants.{Done, Refused}
 use Rattle.paper.specs.Bins.{count}
 use Rattle.paper.specs.Blocks.{State}
 use Rattle.paper.specs.GivingBack.{ask}
+use Rattle.std.specs.declared.result.Result.TheVariants.{Ok, Err}
+use Rattle.paper.specs.Answers.{Answer}
 
 abbrev pub is_done : Answer → Bool
-is_done (Done v) = true
-is_done (Refused k) = false
+is_done (Ok v) = true
+is_done (Err k) = false
 
 -- each number of the list but 0 is one that h has, and stands in the list once
 module _ (h : ℕ → Bool) where
@@ -20,7 +20,7 @@ module _ (h : ℕ → Bool) where
 
 -- what is told of the one that is meant: of 0 nothing
 unfoldable pub ask_one : State → ℕ → Answer
-ask_one s o = if= o 0 (Done 0) (ask s o)
+ask_one s o = if= o 0 (Ok 0) (ask s o)
 
 -- each is the offset of a held payload
 unfoldable pub all_held : State → List ℕ → Bool

@@ -1,8 +1,6 @@
 -- "How a block comes back": the answer of a give-back, and the state afterwards; and asking, which answers the same.
 use Rattle.std.specs.Prelude.{List, [], ◌∷◌, ℕ, ◌+◌, ◌-◌}
 use Rattle.words.specs.Choice.{if=, if<}
-use Rattle.paper.specs.declared.Answer.{Answer}
-use Rattle.paper.specs.declared.Answer.TheVariants.{Done, Refused}
 use Rattle.paper.specs.Layout.{blocks_at, large}
 use Rattle.paper.specs.Blocks.{free, block, State}
 use Rattle.paper.specs.Bins.{rebin, enter, leave}
@@ -10,10 +8,12 @@ use Rattle.paper.specs.Runs.{under, replace, starts_at, ends_at, free_size}
 use Rattle.paper.specs.Granting.{Result, refused, R, E}
 use Rattle.paper.specs.GoingHome.{go_home}
 use Rattle.paper.specs.LookingUp.{look_up, by_offset}
+use Rattle.std.specs.declared.result.Result.TheVariants.{Ok, Err}
+use Rattle.paper.specs.Answers.{Answer}
 
 -- "Ask returns the payload bytes, block size less 4"
 unfoldable pub ask : State → ℕ → Answer
-ask s offset = by_offset (look_up s offset) offset Refused (λ q z. Done (z - 4))
+ask s offset = by_offset (look_up s offset) offset Err (λ q z. Ok (z - 4))
 
 -- "Small: put at the front of its bin." What then stands at E may go home.
 unfoldable pub give_back_small : State → ℕ → ℕ → State
@@ -55,4 +55,4 @@ unfoldable pub give_back : State → ℕ → Result
 give_back s offset =
     by_offset (look_up s offset) offset
     (λ k. refused k s)
-    (λ q z. record { answer = Done (z - 4); state = if< z large (go_home (give_back_small s q z)) (give_back_large s q z) })
+    (λ q z. record { answer = Ok (z - 4); state = if< z large (go_home (give_back_small s q z)) (give_back_large s q z) })

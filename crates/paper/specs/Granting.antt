@@ -2,25 +2,26 @@
 use Rattle.std.specs.Prelude.{[], ◌∷◌, ◌++◌, ℕ, ◌+◌, ◌-◌}
 use Rattle.words.specs.Choice.{if=, if<}
 use Rattle.heads.specs.Heads.{block_size}
-use Rattle.paper.specs.declared.Answer.{Answer}
-use Rattle.paper.specs.declared.Answer.TheVariants.{Done, Refused}
-use Rattle.paper.specs.Answers.{no_size, no_room}
 use Rattle.paper.specs.Layout.{blocks_at, large}
 use Rattle.paper.specs.Blocks.{held, free, block, State, total, end}
 use Rattle.paper.specs.Bins.{first, seek, rebin, enter, leave, used}
 use Rattle.paper.specs.Runs.{replace}
+use Rattle.std.specs.declared.result.Result.TheVariants.{Ok, Err}
+use Rattle.paper.specs.declared.Refusal.TheVariants.{NoRoom, NoSize}
+use Rattle.paper.specs.Answers.{Answer}
+use Rattle.paper.specs.declared.Refusal.{Refusal}
 
 -- what is answered, and the state afterwards
 pub record Result : Type 0 where
   pub answer : Answer
   pub state : State
 
-abbrev pub refused : ℕ → State → Result
-refused k s = record { answer = Refused k; state = s }
+abbrev pub refused : Refusal → State → Result
+refused k s = record { answer = Err k; state = s }
 
 -- "Take returns the payload offset (block start plus 4)."
 abbrev pub granted : ℕ → State → Result
-granted q s = record { answer = Done (q + 4); state = s }
+granted q s = record { answer = Ok (q + 4); state = s }
 
 -- "R to E: the remainder"
 abbrev pub R : State → ℕ
@@ -35,11 +36,11 @@ E s = R s + s.rest
 pub data Choice : Type 0 where
   first_of_bin high_end exact_bin low_end : ℕ → Choice
   larger_bin : ℕ → ℕ → Choice
-  refusal : ℕ → Choice
+  refusal : Refusal → Choice
 
 -- ".. if the remainder is at least b + 8; otherwise 4."
 abbrev pub if_room : State → ℕ → Choice → Choice
-if_room s b c = if< s.rest (b + 8) (refusal no_room) c
+if_room s b c = if< s.rest (b + 8) (refusal NoRoom) c
 
 -- "Small: the first of its bin; otherwise cut from the remainder's high end"
 unfoldable pub choose_small : State → ℕ → Choice
@@ -59,7 +60,7 @@ choose_large s b =
 unfoldable pub choose : State → ℕ → Choice
 choose s payload =
     if= payload 0
-    (refusal no_size)
+    (refusal NoSize)
     (if< (block_size payload) large (choose_small s (block_size payload)) (choose_large s (block_size payload)))
 
 -- ---- what each choice does

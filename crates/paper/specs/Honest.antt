@@ -2,9 +2,9 @@
 -- give-backs, ends in these very bytes." And "demand 3 holds for each layout by itself" (request 2026-04).
 use Rattle.std.specs.Prelude.{◌≡◌, ◌⊎◌, List, [], ◌∷◌, ℕ, ◌<◌, ◌^◌, length}
 use Rattle.words.specs.Words.{Bytes}
-use Rattle.paper.specs.Answers.{Out}
 use Rattle.paper.specs.Allowed.{Allowed}
 use Rattle.paper.specs.Calls.{Reading, Reads, lay_out_call, take_call, give_back_call}
+use Rattle.paper.specs.Answers.{Out}
 
 -- a take of a size, and a give-back of an offset
 pub data Call : Type 0 where

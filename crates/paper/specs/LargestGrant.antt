@@ -1,14 +1,14 @@
 -- "The greatest payload size that take would grant at this moment, 0 if there is none" (request 2026-01): take itself is asked.
 use Rattle.std.specs.Prelude.{ℕ, zero, suc}
-use Rattle.paper.specs.declared.Answer.{Answer}
-use Rattle.paper.specs.declared.Answer.TheVariants.{Done, Refused}
 use Rattle.paper.specs.Blocks.{State}
 use Rattle.paper.specs.Granting.{take}
+use Rattle.std.specs.declared.result.Result.TheVariants.{Ok, Err}
+use Rattle.paper.specs.Answers.{Answer}
 
 -- x for a grant, y for a refusal
 abbrev pub if_granted : Answer → ℕ → ℕ → ℕ
-if_granted (Done offset) x y = x
-if_granted (Refused k) x y = y
+if_granted (Ok offset) x y = x
+if_granted (Err k) x y = y
 
 -- of the sizes from 1 to m the greatest that is granted, 0 if none is
 unfoldable pub greatest_grant : State → ℕ → ℕ

@@ -4,9 +4,10 @@ use Rattle.std.specs.Prelude.{List, [], ◌∷◌, ℕ, ◌+◌}
 use Rattle.words.specs.Choice.{if=, if<}
 use Rattle.paper.specs.declared.Found.{Found}
 use Rattle.paper.specs.declared.Found.TheVariants.{Held, Free, Remainder, Nothing}
-use Rattle.paper.specs.Answers.{not_held}
 use Rattle.paper.specs.Layout.{blocks_at}
 use Rattle.paper.specs.Blocks.{Kind, held, free, remainder, Block, block, State, blocks}
+use Rattle.paper.specs.declared.Refusal.TheVariants.{NotHeld}
+use Rattle.paper.specs.declared.Refusal.{Refusal}
 
 -- a block of that kind, by where it starts and its size
 abbrev pub found : Kind → ℕ → ℕ → Found
@@ -25,8 +26,8 @@ look_up s a = if< a blocks_at Nothing (block_at (blocks s) blocks_at a)
 
 -- refused, or done with the held block whose payload starts at the offset
 module _ {A : Type 0} where
-  abbrev pub by_offset : Found → (offset : ℕ) → (refused : ℕ → A) → (done : ℕ → ℕ → A) → A
-  by_offset (Held q z) offset refused done = if= offset (q + 4) (done q z) (refused not_held)
-  by_offset (Free q z) offset refused done = refused not_held
-  by_offset (Remainder q z) offset refused done = refused not_held
-  by_offset Nothing offset refused done = refused not_held
+  abbrev pub by_offset : Found → (offset : ℕ) → (refused : Refusal → A) → (done : ℕ → ℕ → A) → A
+  by_offset (Held q z) offset refused done = if= offset (q + 4) (done q z) (refused NotHeld)
+  by_offset (Free q z) offset refused done = refused NotHeld
+  by_offset (Remainder q z) offset refused done = refused NotHeld
+  by_offset Nothing offset refused done = refused NotHeld

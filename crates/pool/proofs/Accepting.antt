@@ -11,7 +11,6 @@ use Rattle.words.specs.Parts.{replaced_part}
 use Rattle.words.specs.Words.{Bytes}
 use Rattle.paper.specs.Allowed.{Allowed}
 use Rattle.paper.specs.Calls.{Reading, Reads, misfit, broken, sound, inspect_call, take_call, give_back_call}
-use Rattle.paper.specs.declared.Answer.TheVariants.{Done, Refused}
 use Rattle.paper.specs.Fresh.{layout_top}
 use Rattle.paper.specs.Honest.{takes, gives}
 use Rattle.paper.specs.Sound.{Sound, level_word}
@@ -23,11 +22,13 @@ use Rattle.pool.proofs.Demand3.{accepted-sound-pools}
 use Rattle.pool.proofs.Holding.{Held, payload-inside, written-sound}
 use Rattle.reading.specs.Read.{read}
 use Rattle.reading.proofs.Readings.{reads}
+use Rattle.std.specs.declared.result.Result.TheVariants.{Ok, Err}
+use Rattle.paper.specs.declared.Refusal.{Refusal}
 
 -- bytes that inspection accepts
 pub record Accepted (bs : List ℕ) : Type 0 where
   pub bytes : Bytes bs
-  pub inspected : inspect bs ≡ Done (length bs)
+  pub inspected : inspect bs ≡ Ok (length bs)
 
 by-sound : (bs : List ℕ) → Bytes bs → Sound bs → Accepted bs
 by-sound bs h S = record { bytes = h; inspected = accepted-sound-pools bs h S }
@@ -43,10 +44,10 @@ module _ (bs : List ℕ) (A : Accepted bs) where
   unfolding inspect
   accepted-sound = go (read bs) (reads bs A.bytes) A.inspected
     where
-      never : {k : ℕ} → Refused k ≡ Done (length bs) → ⊥
+      never : {k : Refusal} → Err k ≡ Ok (length bs) → ⊥
       never e = let z : ◌≡◌ {A = ℕ} 0 1 = cc in omega arith
 
-      go : (x : Reading) → Reads bs x → inspect_call x bs ≡ Done (length bs) → Sound bs
+      go : (x : Reading) → Reads bs x → inspect_call x bs ≡ Ok (length bs) → Sound bs
       go misfit r e = absurd (never e)
       go broken r e = absurd (never e)
       go (sound s) r e = r.0

@@ -3,10 +3,8 @@ use mathlib.Core.Path.{◌≡◌, ap, sym, ◌∙◌}
 use mathlib.Core.List.{List}
 use Prim.Native.Nat.{ℕ}
 use Rattle.std.specs.Borrow.{Bor, MutBor}
-use Rattle.paper.specs.declared.Answer.{Answer}
-use Rattle.paper.specs.declared.Tally.{Tally}
-use Rattle.paper.specs.Answers.{Out, out}
 use Rattle.pool.specs.Calls.{lay_out, inspect, take, give_back, ask, ask_all, Lent, LentMut, figures, class_count}
+use Rattle.paper.specs.Answers.{Answer, out, Out, Tally}
 
 -- an outcome is an answer and the bytes afterwards
 same_outcome : (o : Out) (r r' : Answer) (a a' : List ℕ) → o ≡ out r a → o ≡ out r' a' → (r ≡ r') × (a ≡ a')

@@ -13,10 +13,8 @@ use Rattle.paper.proofs.reads.Standing.{stands-sound}
 use Rattle.paper.proofs.reads.Stands.{Stands}
 use Rattle.paper.proofs.runs.HeldPlaces.{held_at}
 use Rattle.paper.proofs.sheet.WrittenBytes.{write_bytes}
-use Rattle.paper.specs.Answers.{Out, no_room}
 use Rattle.paper.specs.Blocks.{State}
 use Rattle.paper.specs.Calls.{Reading, Reads, sound, take_call}
-use Rattle.paper.specs.declared.Answer.TheVariants.{Done, Refused}
 use Rattle.paper.specs.Governed.{sheet}
 use Rattle.paper.specs.Granting.{take as take_state}
 use Rattle.paper.specs.Sheet.{write}
@@ -24,6 +22,10 @@ use Rattle.pool.specs.Calls.{take}
 use Rattle.pool.proofs.Accepting.{Accepted, accepted-sound}
 use Rattle.pool.proofs.Holding.{Held, payload_of, by-held, held_by, payload-long, read_is, reads-stands}
 use Rattle.reading.proofs.Readings.{reading-unique}
+use Rattle.std.specs.declared.result.Result.TheVariants.{Ok, Err}
+use Rattle.paper.specs.declared.Refusal.TheVariants.{NoRoom}
+use Rattle.paper.specs.Answers.{Out}
+use Rattle.paper.specs.declared.Refusal.{Refusal}
 
 module _ (bs : List ℕ) (A : Accepted bs) (size : ℕ) where
   s : State
@@ -40,8 +42,8 @@ module _ (bs : List ℕ) (A : Accepted bs) (size : ℕ) where
   unfolding take
   taken = ap (λ (x : Reading). take_call x bs size) (read_is bs A.bytes s sound-reads)
 
-  module _ (q : ℕ) (e : (take bs size).answer ≡ Done q) where
-    granted : (take_state s size).answer ≡ Done q
+  module _ (q : ℕ) (e : (take bs size).answer ≡ Ok q) where
+    granted : (take_state s size).answer ≡ Ok q
     granted = ap (λ (o : Out). o.answer) (sym taken) ∙ e
 
     pub record Granted : Type 0 where
@@ -71,5 +73,5 @@ module _ (bs : List ℕ) (A : Accepted bs) (size : ℕ) where
         omega (arith, k.1.one, ap (λ (t : State). held_at t q) f, take-was-none s stands.well_formed size q granted)
 
   -- a refusal of a size that is not 0
-  pub refused-for-room : 1 ≤ size → (k : ℕ) → (take bs size).answer ≡ Refused k → k ≡ no_room
+  pub refused-for-room : 1 ≤ size → (k : Refusal) → (take bs size).answer ≡ Err k → k ≡ NoRoom
   refused-for-room one k e = take-refused-for-room s size k (λ z. omega arith) (ap (λ (o : Out). o.answer) (sym taken) ∙ e)

@@ -9,7 +9,6 @@ use native.Mathlib.Omega.{arith}
 use lib.ListN.{get_or, length, take as firsts, drop, length-drop}
 use lib.Seq.{length-take-le}
 use Rattle.words.specs.Words.{Bytes}
-use Rattle.paper.specs.declared.Answer.TheVariants.{Done, Refused}
 use Rattle.paper.specs.Blocks.{State, end}
 use Rattle.paper.specs.Calls.{Reading, Reads, misfit, broken, sound, take_call, give_back_call, ask_call, lend_from, lend_to}
 use Rattle.paper.specs.GivingBack.{ask as ask_state, give_back as give_back_state}
@@ -36,10 +35,12 @@ use Rattle.paper.proofs.sheet.WrittenBytes.{write_bytes}
 use Rattle.pool.specs.Calls.{take, give_back, ask, part, part_from, part_to}
 use Rattle.reading.specs.Read.{read}
 use Rattle.reading.proofs.Readings.{reads, reading-unique}
+use Rattle.std.specs.declared.result.Result.TheVariants.{Ok, Err}
+use Rattle.paper.specs.declared.Refusal.{Refusal}
 
 -- the pool holds a payload at an offset: asking tells its length, and lending gives its bytes
 pub record Held (bs : List ℕ) (offset : ℕ) (payload : List ℕ) : Type 0 where
-  pub asked : ask bs offset ≡ Done (length payload)
+  pub asked : ask bs offset ≡ Ok (length payload)
   pub lent : part bs offset ≡ payload
 
 -- ---- by the state
@@ -74,10 +75,10 @@ module _ (bs : List ℕ) (offset : ℕ) where
     unfolding ask ask_state
     held_by payload h = go (read bs) refl (reads bs bytes) h.asked
       where
-        never : {A : Type 0} (k v : ℕ) → Refused k ≡ Done v → A
+        never : {A : Type 0} (k : Refusal) (v : ℕ) → Err k ≡ Ok v → A
         never k v e = absurd (let z : ◌≡◌ {A = ℕ} 0 1 = cc in omega arith)
 
-        go : (x : Reading) → read bs ≡ x → Reads bs x → ask_call x offset ≡ Done (length payload) → (s : State) × HeldBy s payload
+        go : (x : Reading) → read bs ≡ x → Reads bs x → ask_call x offset ≡ Ok (length payload) → (s : State) × HeldBy s payload
         go misfit e r a = never _ _ a
         go broken e r a = never _ _ a
         go (sound s) e r a =
@@ -98,7 +99,7 @@ module _ (bs : List ℕ) (offset : ℕ) where
         record {
           asked =
               ap (λ (x : Reading). ask_call x offset) (read_is bs bytes s r) ∙ look_up-held offset _ _ s S.well_formed.sized (omega arith)
-              ∙ ap Done (sym (payload-long s r l));
+              ∙ ap Ok (sym (payload-long s r l));
           lent = part_by s S (read_is bs bytes s r) l;
         }
 

@@ -8,19 +8,20 @@ use native.Mathlib.Omega.{arith}
 use lib.ListN.{length, take, drop}
 use Rattle.std.specs.Borrow.{Bor, MutBor}
 use Rattle.paper.specs.Calls.{Reading, misfit, broken, sound, ask_call, lend_from, lend_to}
-use Rattle.paper.specs.declared.Answer.TheVariants.{Done, Refused}
 use Rattle.paper.proofs.runs.Asking.{ask-done, ask-refused}
 use Rattle.paper.proofs.runs.HeldPlaces.{held_at}
 use Rattle.paper.proofs.runs.LookedUp.{look_up-held, look_up-none}
 use Rattle.reading.specs.Read.{read}
 use Rattle.reading.proofs.Asked.{read-sound}
-use Rattle.pool.specs.declared.parts.Span.{Span}
+use Rattle.std.specs.declared.ops.Range.{Range}
 use Rattle.pool.specs.Parts.{Bounds}
 use Rattle.pool.specs.Calls.{Lent, LentMut, part_from, part_to}
 use Rattle.pool.specs.Calls as call
+use Rattle.std.specs.declared.result.Result.TheVariants.{Ok, Err}
+use Rattle.paper.specs.declared.Refusal.{Refusal}
 
 module _ (bs : List ℕ) (offset : ℕ) where
-  refused-part : (x : Reading) (k : ℕ) → read bs ≡ x → ask_call x offset ≡ Refused k → (lend_from x bs offset ≡ length bs) × (lend_to x bs offset ≡ length bs)
+  refused-part : (x : Reading) (k : Refusal) → read bs ≡ x → ask_call x offset ≡ Err k → (lend_from x bs offset ≡ length bs) × (lend_to x bs offset ≡ length bs)
   refused-part misfit k r e = (refl, refl)
   refused-part broken k r e = (refl, refl)
   refused-part (sound s) k r e =
@@ -28,7 +29,7 @@ module _ (bs : List ℕ) (offset : ℕ) where
       let n = ask-refused s W offset k e in
       (look_up-none offset _ _ s W.sized n, look_up-none offset _ _ s W.sized n)
 
-  held-part : (x : Reading) (v : ℕ) → read bs ≡ x → ask_call x offset ≡ Done v
+  held-part : (x : Reading) (v : ℕ) → read bs ≡ x → ask_call x offset ≡ Ok v
       → (lend_from x bs offset ≡ offset) × (lend_to x bs offset ≡ offset + v) × (offset + v ≤ length bs)
   held-part misfit v r e = absurd (let z : ◌≡◌ {A = ℕ} 0 1 = cc in omega arith)
   held-part broken v r e = absurd (let z : ◌≡◌ {A = ℕ} 0 1 = cc in omega arith)
@@ -44,29 +45,29 @@ module _ (bs : List ℕ) (offset : ℕ) where
 
   -- ---- the code's bounds
 
-  pub bounds-refused : (k : ℕ) → call.ask bs offset ≡ Refused k → Bounds bs offset (record { from = length bs; to = length bs })
+  pub bounds-refused : (k : Refusal) → call.ask bs offset ≡ Err k → Bounds bs offset (record { start = length bs; end = length bs })
   unfolding call.ask part_from part_to
   bounds-refused k e =
       let p = refused-part (read bs) k refl e in record { starts = sym p.0; ends = sym p.1; rises = omega arith; inside = omega arith }
 
-  pub bounds-held : (v : ℕ) → call.ask bs offset ≡ Done v → Bounds bs offset (record { from = offset; to = offset + v })
+  pub bounds-held : (v : ℕ) → call.ask bs offset ≡ Ok v → Bounds bs offset (record { start = offset; end = offset + v })
   unfolding call.ask part_from part_to
   bounds-held v e =
       let p = held-part (read bs) v refl e in record { starts = sym p.0; ends = sym p.1; rises = omega arith; inside = p.2 }
 
 -- what is made of the bounds is lent
-pub lent-part : (r pool : Bor (List ℕ)) (offset : ℕ) (s : Span) → Bounds pool.now offset s
-    → r.now ≡ take (s.to - s.from) (drop s.from pool.now) → r.ref_ptr ≡ (pool.ref_ptr.0, s.from + pool.ref_ptr.1) → Lent r pool offset
+pub lent-part : (r pool : Bor (List ℕ)) (offset : ℕ) (s : Range ℕ) → Bounds pool.now offset s
+    → r.now ≡ take (s.end - s.start) (drop s.start pool.now) → r.ref_ptr ≡ (pool.ref_ptr.0, s.start + pool.ref_ptr.1) → Lent r pool offset
 lent-part r pool offset s w e p =
     record {
       bytes = e ∙ ap₂ (λ (x y : ℕ). take (y - x) (drop x pool.now)) w.starts w.ends;
-      place = p ∙ ap (λ (x : ℕ). (pool.ref_ptr.0, x)) (add_comm s.from pool.ref_ptr.1 ∙ ap (λ (x : ℕ). pool.ref_ptr.1 + x) w.starts);
+      place = p ∙ ap (λ (x : ℕ). (pool.ref_ptr.0, x)) (add_comm s.start pool.ref_ptr.1 ∙ ap (λ (x : ℕ). pool.ref_ptr.1 + x) w.starts);
     }
 
-pub lent-mut-part : (r pool : MutBor (List ℕ)) (offset : ℕ) (s : Span) → Bounds pool.now offset s
-    → r.now ≡ take (s.to - s.from) (drop s.from pool.now) → r.ref_ptr ≡ (pool.ref_ptr.0, s.from + pool.ref_ptr.1) → LentMut r pool offset
+pub lent-mut-part : (r pool : MutBor (List ℕ)) (offset : ℕ) (s : Range ℕ) → Bounds pool.now offset s
+    → r.now ≡ take (s.end - s.start) (drop s.start pool.now) → r.ref_ptr ≡ (pool.ref_ptr.0, s.start + pool.ref_ptr.1) → LentMut r pool offset
 lent-mut-part r pool offset s w e p =
     record {
       bytes = e ∙ ap₂ (λ (x y : ℕ). take (y - x) (drop x pool.now)) w.starts w.ends;
-      place = p ∙ ap (λ (x : ℕ). (pool.ref_ptr.0, x)) (add_comm s.from pool.ref_ptr.1 ∙ ap (λ (x : ℕ). pool.ref_ptr.1 + x) w.starts);
+      place = p ∙ ap (λ (x : ℕ). (pool.ref_ptr.0, x)) (add_comm s.start pool.ref_ptr.1 ∙ ap (λ (x : ℕ). pool.ref_ptr.1 + x) w.starts);
     }

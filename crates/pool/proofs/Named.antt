@@ -10,17 +10,18 @@ use lib.ListN.{get_or, length}
 use Rattle.words.specs.Choice.{by=, if=, if=-no, if=-yes, when, when-no, when-yes}
 use Rattle.words.specs.Words.{Bytes}
 use Rattle.paper.proofs.runs.Asking.{ask-done}
-use Rattle.paper.specs.Answers.{not_allowed, not_held, not_sound}
 use Rattle.paper.specs.AskingAll.{all_held, ask_one, each_once, is_done}
 use Rattle.paper.specs.Bins.{count}
 use Rattle.paper.specs.Calls.{Reading, Reads, misfit, broken, sound, ask_call, ask_all_call, inspect_call}
-use Rattle.paper.specs.declared.Answer.{Answer}
-use Rattle.paper.specs.declared.Answer.TheVariants.{Done, Refused}
 use Rattle.pool.specs.Calls.{ask, ask_all, inspect}
 use Rattle.pool.proofs.Accepting.{Accepted}
 use Rattle.pool.proofs.Holding.{Held, by-held, payload_of, reads-stands}
 use Rattle.reading.specs.Read.{read}
 use Rattle.reading.proofs.Readings.{reads}
+use Rattle.std.specs.declared.result.Result.TheVariants.{Ok, Err}
+use Rattle.paper.specs.declared.Refusal.TheVariants.{NotAllowed, NotHeld, NotSound}
+use Rattle.paper.specs.Answers.{Answer}
+use Rattle.paper.specs.declared.Refusal.{Refusal}
 
 -- ---- a list that names each once
 
@@ -93,32 +94,32 @@ module _ (h : ℕ → Bool) where
 
 -- ---- the call
 
-pub inspect-numbers : (bs : List ℕ) (k : ℕ) → inspect bs ≡ Refused k → (k ≡ not_allowed) ⊎ (k ≡ not_sound)
+pub inspect-numbers : (bs : List ℕ) (k : Refusal) → inspect bs ≡ Err k → (k ≡ NotAllowed) ⊎ (k ≡ NotSound)
 unfolding inspect
 inspect-numbers bs k e = go (read bs) e
   where
-    go : (x : Reading) → inspect_call x bs ≡ Refused k → (k ≡ not_allowed) ⊎ (k ≡ not_sound)
+    go : (x : Reading) → inspect_call x bs ≡ Err k → (k ≡ NotAllowed) ⊎ (k ≡ NotSound)
     go misfit f = inl cc
     go broken f = inr cc
     go (sound s) f = absurd (let z : ◌≡◌ {A = ℕ} 0 1 = cc in omega arith)
 
 -- done, it answers the length
-pub inspect-value : (bs : List ℕ) (v : ℕ) → inspect bs ≡ Done v → inspect bs ≡ Done (length bs)
+pub inspect-value : (bs : List ℕ) (v : ℕ) → inspect bs ≡ Ok v → inspect bs ≡ Ok (length bs)
 unfolding inspect
 inspect-value bs v e = go (read bs) e
   where
-    go : (x : Reading) → inspect_call x bs ≡ Done v → inspect_call x bs ≡ Done (length bs)
+    go : (x : Reading) → inspect_call x bs ≡ Ok v → inspect_call x bs ≡ Ok (length bs)
     go misfit f = absurd (let z : ◌≡◌ {A = ℕ} 0 1 = cc in omega arith)
     go broken f = absurd (let z : ◌≡◌ {A = ℕ} 0 1 = cc in omega arith)
     go (sound s) f = refl
 
-done-is : (a : Answer) → is_done a ≡ true → (v : ℕ) × (a ≡ Done v)
-done-is (Done v) e = (v, refl)
-done-is (Refused k) e = absurd (no_both e)
+done-is : (a : Answer) → is_done a ≡ true → (v : ℕ) × (a ≡ Ok v)
+done-is (Ok v) e = (v, refl)
+done-is (Err k) e = absurd (no_both e)
 
 -- what is told of the one that is meant
 abbrev pub told : List ℕ → ℕ → Answer
-told bs o = if= o 0 (Done 0) (ask bs o)
+told bs o = if= o 0 (Ok 0) (ask bs o)
 
 module _ (bs offsets : List ℕ) where
   -- whether the list names each once, of those that asking finds
@@ -126,7 +127,7 @@ module _ (bs offsets : List ℕ) where
   named = each_once (λ o. is_done (ask bs o)) offsets
 
   -- then the one that is meant is told
-  named-told : named ≡ true → (place : ℕ) → (w : ℕ) × (told bs (get_or offsets place 0) ≡ Done w)
+  named-told : named ≡ true → (place : ℕ) → (w : ℕ) × (told bs (get_or offsets place 0) ≡ Ok w)
   named-told e place =
       by= (get_or offsets place 0) 0 (λ z. (0, if=-yes _ 0 _ _ z))
       (λ n. let d = done-is (ask bs (get_or offsets place 0)) ((each-once (λ o. is_done (ask bs o)) offsets e).had place n) in
@@ -134,30 +135,30 @@ module _ (bs offsets : List ℕ) where
 
   module _ (place : ℕ) where
     -- 1 and 2 are inspection's
-    pub ask-all-refused : (k : ℕ) → inspect bs ≡ Refused k → ask_all bs offsets place ≡ Refused k
+    pub ask-all-refused : (k : Refusal) → inspect bs ≡ Err k → ask_all bs offsets place ≡ Err k
     unfolding inspect ask_all
     ask-all-refused k e = go (read bs) e
       where
-        go : (x : Reading) → inspect_call x bs ≡ Refused k → ask_all_call x offsets place ≡ Refused k
+        go : (x : Reading) → inspect_call x bs ≡ Err k → ask_all_call x offsets place ≡ Err k
         go misfit f = f
         go broken f = f
         go (sound s) f = absurd (let z : ◌≡◌ {A = ℕ} 0 1 = cc in omega arith)
 
     -- else it goes by what asking says of each
-    ask-all-is : (v : ℕ) → inspect bs ≡ Done v → ask_all bs offsets place ≡ when named (told bs (get_or offsets place 0)) (Refused not_held)
+    ask-all-is : (v : ℕ) → inspect bs ≡ Ok v → ask_all bs offsets place ≡ when named (told bs (get_or offsets place 0)) (Err NotHeld)
     unfolding inspect ask_all ask all_held ask_one
     ask-all-is v e = go (read bs) e
       where
-        go : (x : Reading) → inspect_call x bs ≡ Done v → ask_all_call x offsets place
-            ≡ when (each_once (λ o. is_done (ask_call x o)) offsets) (if= (get_or offsets place 0) 0 (Done 0) (ask_call x (get_or offsets place 0))) (Refused not_held)
+        go : (x : Reading) → inspect_call x bs ≡ Ok v → ask_all_call x offsets place
+            ≡ when (each_once (λ o. is_done (ask_call x o)) offsets) (if= (get_or offsets place 0) 0 (Ok 0) (ask_call x (get_or offsets place 0))) (Err NotHeld)
         go misfit f = absurd (let z : ◌≡◌ {A = ℕ} 0 1 = cc in omega arith)
         go broken f = absurd (let z : ◌≡◌ {A = ℕ} 0 1 = cc in omega arith)
         go (sound s) f = refl
 
-    pub ask-all-either : (v : ℕ) → inspect bs ≡ Done v → ((w : ℕ) × (ask_all bs offsets place ≡ Done w)) ⊎ (ask_all bs offsets place ≡ Refused not_held)
+    pub ask-all-either : (v : ℕ) → inspect bs ≡ Ok v → ((w : ℕ) × (ask_all bs offsets place ≡ Ok w)) ⊎ (ask_all bs offsets place ≡ Err NotHeld)
     ask-all-either v e = go named refl
       where
-        go : (b : Bool) → named ≡ b → ((w : ℕ) × (ask_all bs offsets place ≡ Done w)) ⊎ (ask_all bs offsets place ≡ Refused not_held)
+        go : (b : Bool) → named ≡ b → ((w : ℕ) × (ask_all bs offsets place ≡ Ok w)) ⊎ (ask_all bs offsets place ≡ Err NotHeld)
         go true f = let t = named-told f place in inl (t.0, ask-all-is v e ∙ when-yes named _ _ f ∙ t.1)
         go false f = inr (ask-all-is v e ∙ when-no named _ _ f)
 
@@ -168,14 +169,14 @@ pub record Names (bs offsets : List ℕ) : Type 0 where
   pub apart : (i j : ℕ) → get_or offsets i 0 ≢ 0 → get_or offsets i 0 ≡ get_or offsets j 0 → i ≡ j
 
 -- a payload is held where asking is done
-pub asked-held : (bs : List ℕ) → Bytes bs → (o v : ℕ) → ask bs o ≡ Done v → (payload : List ℕ) × Held bs o payload
+pub asked-held : (bs : List ℕ) → Bytes bs → (o v : ℕ) → ask bs o ≡ Ok v → (payload : List ℕ) × Held bs o payload
 unfolding ask
 asked-held bs bytes o v e = go (read bs) (reads bs bytes) e
   where
-    never : {A : Type 0} (k : ℕ) → Refused k ≡ Done v → A
+    never : {A : Type 0} (k : Refusal) → Err k ≡ Ok v → A
     never k f = absurd (let z : ◌≡◌ {A = ℕ} 0 1 = cc in omega arith)
 
-    go : (x : Reading) → Reads bs x → ask_call x o ≡ Done v → (payload : List ℕ) × Held bs o payload
+    go : (x : Reading) → Reads bs x → ask_call x o ≡ Ok v → (payload : List ℕ) × Held bs o payload
     go misfit r f = never _ f
     go broken r f = never _ f
     go (sound s) r f =
@@ -183,21 +184,21 @@ asked-held bs bytes o v e = go (read bs) (reads bs bytes) e
         (payload_of s bs o, by-held bs o bytes s r (omega (arith, (ask-done s S.well_formed o v f).0)))
 
 module _ (bs offsets : List ℕ) where
-  pub names-asked : Accepted bs → Names bs offsets → (place : ℕ) → (w : ℕ) × (ask_all bs offsets place ≡ Done w)
+  pub names-asked : Accepted bs → Names bs offsets → (place : ℕ) → (w : ℕ) × (ask_all bs offsets place ≡ Ok w)
   names-asked A N place =
       let e : named bs offsets ≡ true =
       once-each (λ o. is_done (ask bs o)) offsets (record { had = λ i n. ap is_done (N.held i n).1.asked; apart = N.apart }) in
       let t = named-told bs offsets e place in
       (t.0, ask-all-is bs offsets place _ A.inspected ∙ when-yes (named bs offsets) _ _ e ∙ t.1)
 
-  module _ (place v : ℕ) (e : ask_all bs offsets place ≡ Done v) where
-    inspected : inspect bs ≡ Done (length bs)
+  module _ (place v : ℕ) (e : ask_all bs offsets place ≡ Ok v) where
+    inspected : inspect bs ≡ Ok (length bs)
     inspected = go (inspect bs) refl
       where
-        go : (a : Answer) → inspect bs ≡ a → inspect bs ≡ Done (length bs)
-        go (Refused k) f =
-            absurd (let g : Refused k ≡ Done v = sym (ask-all-refused bs offsets place k f) ∙ e in let z : ◌≡◌ {A = ℕ} 0 1 = cc in omega arith)
-        go (Done w) f = inspect-value bs w f
+        go : (a : Answer) → inspect bs ≡ a → inspect bs ≡ Ok (length bs)
+        go (Err k) f =
+            absurd (let g : Err k ≡ Ok v = sym (ask-all-refused bs offsets place k f) ∙ e in let z : ◌≡◌ {A = ℕ} 0 1 = cc in omega arith)
+        go (Ok w) f = inspect-value bs w f
 
     is-named : named bs offsets ≡ true
     is-named = go (named bs offsets) refl
@@ -205,7 +206,7 @@ module _ (bs offsets : List ℕ) where
         go : (b : Bool) → named bs offsets ≡ b → named bs offsets ≡ true
         go true f = f
         go false f =
-            let g : Refused not_held ≡ Done v = sym (ask-all-is bs offsets place _ inspected ∙ when-no (named bs offsets) _ _ f) ∙ e in
+            let g : Err NotHeld ≡ Ok v = sym (ask-all-is bs offsets place _ inspected ∙ when-no (named bs offsets) _ _ f) ∙ e in
             absurd (let z : ◌≡◌ {A = ℕ} 0 1 = cc in omega arith)
 
     pub asked-accepted : Bytes bs → Accepted bs
@@ -220,5 +221,5 @@ module _ (bs offsets : List ℕ) where
         }
 
     -- and the one that is meant is told
-    pub asked-told : told bs (get_or offsets place 0) ≡ Done v
+    pub asked-told : told bs (get_or offsets place 0) ≡ Ok v
     asked-told = sym (ask-all-is bs offsets place _ inspected ∙ when-yes (named bs offsets) _ _ is-named) ∙ e

@@ -7,11 +7,7 @@ use Prim.Native.Nat.{ℕ}
 use native.Mathlib.Omega.{arith}
 use lib.ListN.{length}
 use Rattle.words.specs.Choice.{when-yes, when-no, if=-yes, if=-no, by=}
-use Rattle.paper.specs.declared.Answer.TheVariants.{Done, Refused}
-use Rattle.paper.specs.declared.Tally.{Tally}
-use Rattle.paper.specs.declared.Tally.TheVariants.{Refused as Uncounted}
 use Rattle.paper.specs.Allowed.{allowed}
-use Rattle.paper.specs.Answers.{Out, out, number, value, tally_number, figures_of, seven_of}
 use Rattle.paper.specs.Blocks.{State}
 use Rattle.paper.specs.Calls.{Reading, misfit, broken, sound, laying_out, lay_out_call, take_call, give_back_call, class_count as class_count_of, class_count_call}
 use Rattle.paper.specs.Fresh.{layout_top}
@@ -23,6 +19,9 @@ use Rattle.paper.proofs.reads.Stands.{Stands}
 use Rattle.pool.specs.Calls.{lay_out, inspect, take, give_back, ask, ask_all, figures, class_count}
 use Rattle.reading.specs.Read.{read}
 use Rattle.reading.proofs.Asked.{read-sound}
+use Rattle.std.specs.declared.result.Result.TheVariants.{Ok, Err}
+use Rattle.paper.specs.Answers.{code, figures_of, number, out, Out, seven_of, Tally, tally_number, value}
+use Rattle.paper.specs.declared.Refusal.{Refusal}
 
 -- a public call on a pool of lent bytes, with its number or its list
 pub data Call : Type 0 where
@@ -53,9 +52,9 @@ outcome bs (counts cs) = class_count bs cs
 
 -- an outcome that is refused changes nothing
 abbrev Unchanged : List ℕ → Out → Type 0
-Unchanged bs o = (k : ℕ) → o.answer ≡ Refused k → o.after ≡ bs
+Unchanged bs o = (k : Refusal) → o.answer ≡ Err k → o.after ≡ bs
 
-done-unchanged : (bs : List ℕ) (v : ℕ) (after : List ℕ) → Unchanged bs (out (Done v) after)
+done-unchanged : (bs : List ℕ) (v : ℕ) (after : List ℕ) → Unchanged bs (out (Ok v) after)
 done-unchanged bs v after k e = absurd (let z : ◌≡◌ {A = ℕ} 0 1 = cc in omega arith)
 
 lays-unchanged : (bs : List ℕ) (layout : ℕ) → Unchanged bs (lay_out bs layout)
@@ -104,11 +103,11 @@ stays bs (asks_all offsets place) = λ k e. refl
 stays bs (counts cs) = counts-unchanged cs (read bs)
 
 -- "A refusal returns 0 beside its number and changes nothing."
-pub refused-changes-nothing : (bs : List ℕ) (c : Call) (k : ℕ) → (outcome bs c).answer ≡ Refused k
-    → (number (outcome bs c).answer ≡ k) × (value (outcome bs c).answer ≡ 0) × ((outcome bs c).after ≡ lent bs c)
+pub refused-changes-nothing : (bs : List ℕ) (c : Call) (k : Refusal) → (outcome bs c).answer ≡ Err k
+    → (number (outcome bs c).answer ≡ code k) × (value (outcome bs c).answer ≡ 0) × ((outcome bs c).after ≡ lent bs c)
 refused-changes-nothing bs c k e = (ap number e, ap value e, stays bs c k e)
 
 -- "Refused figures are seven zeros": the answer's figures, as the list that a caller hears
-pub refused-figures : (bs : List ℕ) (k : ℕ) → figures bs ≡ Uncounted k
-    → (tally_number (figures bs) ≡ k) × (seven_of (figures_of (figures bs)) ≡ 0 ∷ 0 ∷ 0 ∷ 0 ∷ 0 ∷ 0 ∷ 0 ∷ [])
+pub refused-figures : (bs : List ℕ) (k : Refusal) → figures bs ≡ Err k
+    → (tally_number (figures bs) ≡ code k) × (seven_of (figures_of (figures bs)) ≡ 0 ∷ 0 ∷ 0 ∷ 0 ∷ 0 ∷ 0 ∷ 0 ∷ [])
 refused-figures bs k e = (ap tally_number e, ap (λ (t : Tally). seven_of (figures_of t)) e)

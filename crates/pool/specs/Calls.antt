@@ -1,11 +1,9 @@
 -- The public calls, by the paper: what each answers and every lent byte afterwards, as a function of its arguments and the bytes before.
 use Rattle.std.specs.Prelude.{◌≡◌, List, ℕ, ◌+◌, ◌-◌, take as firsts, drop}
 use Rattle.std.specs.Borrow.{Bor, MutBor}
-use Rattle.paper.specs.declared.Answer.{Answer}
-use Rattle.paper.specs.declared.Tally.{Tally}
-use Rattle.paper.specs.Answers.{Out}
 use Rattle.paper.specs.Calls.{lay_out_call, inspect_call, take_call, give_back_call, ask_call, ask_all_call, lend_from, lend_to, figures_call, class_count_call}
 use Rattle.reading.specs.Read.{read}
+use Rattle.paper.specs.Answers.{Answer, Out, Tally}
 
 unfoldable pub lay_out : List ℕ → ℕ → Out
 lay_out bs layout = lay_out_call bs layout

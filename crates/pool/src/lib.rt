@@ -10,83 +10,67 @@ ghost use Rattle.std.specs.Prelude.{◌≡◌};
 ghost use Rattle.paper.specs.Answers.{out};
 ghost use Rattle.pool.specs.Calls as call;
 
-use paper::{Answer, Tally};
+use paper::{Figures, Refusal};
 
 // Lays the buffer out as a fresh pool, in layout 1 or 2; answers its length.
-pub fn lay_out(pool: &mut [u8], layout: u32) -> Answer
+pub fn lay_out(pool: &mut [u8], layout: u32) -> Result<u32, Refusal>
     ensures { call.lay_out pool.old layout ≡ out result pool.new }
 {
     let n = pool.len();
     if !reading::allowed(n) {
-        return Answer::Refused(paper::NOT_ALLOWED);
+        return Err(Refusal::NotAllowed);
     }
-    let top = laying::top_of(layout);
-    if top == 0 {
-        return Answer::Refused(paper::NO_LAYOUT);
-    }
+    let Some(top) = laying::top_of(layout) else {
+        return Err(Refusal::NoLayout);
+    };
     serving::lay_out(pool, n as u32, top);
-    Answer::Done(n as u32)
+    Ok(n as u32)
 }
 
 // Whether the pool is sound; answers its length.
-pub fn inspect(pool: &[u8]) -> Answer
+pub fn inspect(pool: &[u8]) -> Result<u32, Refusal>
     ensures { result ≡ call.inspect pool.now }
 {
-    let why = reading::refusal(pool);
-    if why != 0 {
-        return Answer::Refused(why);
-    }
-    Answer::Done(pool.len() as u32)
+    reading::check(pool)?;
+    Ok(pool.len() as u32)
 }
 
 // Grants a block for a payload of `size` bytes; answers where the payload starts.
-pub fn take(pool: &mut [u8], size: u32) -> Answer
+pub fn take(pool: &mut [u8], size: u32) -> Result<u32, Refusal>
     ensures { call.take pool.old size ≡ out result pool.new }
 {
-    let why = reading::refusal(pool);
-    if why != 0 {
-        return Answer::Refused(why);
-    }
+    reading::check(pool)?;
     serving::take(pool, size)
 }
 
 // Takes the block of the payload at `offset` back; answers the payload's bytes.
-pub fn give_back(pool: &mut [u8], offset: u32) -> Answer
+pub fn give_back(pool: &mut [u8], offset: u32) -> Result<u32, Refusal>
     ensures { call.give_back pool.old offset ≡ out result pool.new }
 {
-    let why = reading::refusal(pool);
-    if why != 0 {
-        return Answer::Refused(why);
-    }
+    reading::check(pool)?;
     serving::give_back(pool, offset)
 }
 
 // The bytes of the payload at `offset`.
-pub fn ask(pool: &[u8], offset: u32) -> Answer
+pub fn ask(pool: &[u8], offset: u32) -> Result<u32, Refusal>
     ensures { result ≡ call.ask pool.now offset }
 {
-    let why = reading::refusal(pool);
-    if why != 0 {
-        return Answer::Refused(why);
-    }
+    reading::check(pool)?;
     serving::ask(pool, offset)
 }
 
 // The bytes of the payload whose offset stands at `place` of the list, 0 where none does. The whole list is asked, at one reading: each of
 // its offsets but 0 must be that of a held payload, and stand there once.
-pub fn ask_all(pool: &[u8], offsets: &[u32], place: u32) -> Answer
+pub fn ask_all(pool: &[u8], offsets: &[u32], place: u32) -> Result<u32, Refusal>
     ensures { result ≡ call.ask_all pool.now offsets.now place }
 {
-    let why = reading::refusal(pool);
-    if why != 0 {
-        return Answer::Refused(why);
-    }
+    reading::check(pool)?;
     if !serving::all_held(pool, offsets) {
-        return Answer::Refused(paper::NOT_HELD);
+        return Err(Refusal::NotHeld);
     }
     let offset = numbers::number_at(offsets, place);
     if offset == 0 {
-        return Answer::Done(0);
+        return Ok(0);
     }
     serving::ask(pool, offset)
 }
@@ -95,10 +79,8 @@ pub fn ask_all(pool: &[u8], offsets: &[u32], place: u32) -> Answer
 pub fn lend(pool: &[u8], offset: u32) -> &[u8]
     ensures { call.Lent result pool.entry offset }
 {
-    let s = parts::bounds(pool, offset);
-    let from = s.from;
-    let to = s.to;
-    &pool[from..to]
+    let part = parts::bounds(pool, offset);
+    &pool[part]
 }
 
 // The payload at `offset`, for writing; the empty part at the pool's end where the call is refused. The pool is read through `&`
@@ -106,30 +88,22 @@ pub fn lend(pool: &[u8], offset: u32) -> &[u8]
 pub fn lend_mut(pool: &mut [u8], offset: u32) -> &mut [u8]
     ensures { call.LentMut result pool.entry offset }
 {
-    let s = parts::bounds(pool, offset);
-    let from = s.from;
-    let to = s.to;
-    &mut pool[from..to]
+    let part = parts::bounds(pool, offset);
+    &mut pool[part]
 }
 
 // The seven figures.
-pub fn figures(pool: &[u8]) -> Tally
+pub fn figures(pool: &[u8]) -> Result<Figures, Refusal>
     ensures { result ≡ call.figures pool.now }
 {
-    let why = reading::refusal(pool);
-    if why != 0 {
-        return Tally::Refused(why);
-    }
-    Tally::Counted(serving::figures(pool))
+    reading::check(pool)?;
+    Ok(serving::figures(pool))
 }
 
 // Fills the 53 counters with the held blocks by size class; answers how many are held.
-pub fn class_count(pool: &[u8], counts: &mut [u32]) -> Answer
+pub fn class_count(pool: &[u8], counts: &mut [u32]) -> Result<u32, Refusal>
     ensures { call.class_count pool.now counts.old ≡ out result counts.new }
 {
-    let why = reading::refusal(pool);
-    if why != 0 {
-        return Answer::Refused(why);
-    }
+    reading::check(pool)?;
     serving::class_count(pool, counts)
 }

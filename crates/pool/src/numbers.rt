@@ -5,9 +5,5 @@ ghost use Rattle.std.specs.Prelude.{◌≡◌, get_or};
 pub fn number_at(list: &[u32], place: u32) -> u32
     ensures { result ≡ get_or list.now place 0 }
 {
-    let i = place as usize;
-    if i < list.len() {
-        return list[i];
-    }
-    0
+    list.get(place as usize).copied().unwrap_or(0)
 }

@@ -1,43 +1,46 @@
 // What is read from standard input, `from`. A reading that failed has been said, and is here as an input that ended.
+ghost use Rattle.std.specs.Prelude.{◌≤◌, length, IfOk};
+
+use crate::stop::Stop;
 use std::io::Read;
 
-// The next command's letter, if the input has not ended.
 #[derive(Drop)]
-pub enum Letter {
-    Is(u8),
-    End,
+pub struct Input<'a, R, I> {
+    pub rt: &'a R,
+    pub from: &'a mut I,
 }
 
-pub fn next_letter(rt: &impl Eprint, from: &mut impl Read) -> Letter {
-    let mut one = [0u8; 1];
-    let got = streams::read(rt, from, &mut one);
-    if got == 0 {
-        return Letter::End;
+impl<R: Eprint, I: Read> Input<'_, R, I> {
+    // The next command's letter, if the input has not ended.
+    pub fn letter(&mut self) -> Option<u8> {
+        self.byte().ok()
     }
-    Letter::Is(one[0])
-}
 
-// A number of 4 bytes, if there are 4 bytes more.
-#[derive(Drop)]
-pub enum Number {
-    Of(u32),
-    Short,
-}
-
-pub fn next_number(rt: &impl Eprint, from: &mut impl Read) -> Number {
-    let mut four = [0u8; 4];
-    let got = streams::read(rt, from, &mut four);
-    if got != 4 {
-        return Number::Short;
+    pub fn byte(&mut self) -> Result<u8, Stop> {
+        let mut one = [0u8; 1];
+        self.fill(&mut one, 1)?;
+        Ok(one[0])
     }
-    Number::Of(words::get32(&four, 0))
-}
 
-// Whether `to` was filled.
-pub fn fill(rt: &impl Eprint, from: &mut impl Read, to: &mut [u8]) -> bool {
-    let n = to.len();
-    if n == 0 {
-        return true;
+    // A number of 4 bytes.
+    pub fn number(&mut self) -> Result<u32, Stop> {
+        let mut four = [0u8; 4];
+        self.fill(&mut four, 4)?;
+        Ok(u32::from_le_bytes(four))
     }
-    streams::read(rt, from, to) == n
+
+    // Reads n bytes to the start of `to`; they cannot be read where `to` has no room for them.
+    pub fn fill(&mut self, to: &mut [u8], n: u32) -> Result<(), Stop>
+        ensures { IfOk result (λ _. n ≤ length to.old) }
+    {
+        let n = n as usize;
+        if to.len() < n {
+            return Err(Stop::Unreadable);
+        }
+        let got = streams::read(self.rt, self.from, &mut to[..n])?;
+        if got < n {
+            return Err(Stop::Unreadable);
+        }
+        Ok(())
+    }
 }

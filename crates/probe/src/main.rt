@@ -3,43 +3,42 @@
 #![tactic(auto)]
 
 mod calls;
+mod image;
 mod input;
 mod output;
 mod pistons;
+mod stop;
 
-use calls::Next;
-use input::Letter;
+use calls::Bench;
+use image::Image;
+use input::Input;
+use output::Output;
 use std::io::Read;
+use stop::Stop;
 
 // The commands, one after the other; a run of more than 2^64 - 1 of them would end there.
-fn run(
-    rt: &(impl Print + Eprint),
-    from: &mut impl Read,
-    buffer: &mut [u8],
-    body: &mut [u8],
-    bank: &mut [u32; 32],
-) {
-    let mut n: usize = 0;
-    let mut left: u64 = 18446744073709551615;
-    while left != 0 {
-        let Letter::Is(letter) = input::next_letter(rt, from) else {
-            return;
+fn run<R: Print + Eprint, I: Read>(bench: &mut Bench<R, I>) -> Result<(), Stop> {
+    for _ in 0..u64::MAX {
+        let Some(letter) = bench.input.letter() else {
+            break;
         };
-        match calls::step(rt, from, buffer, body, bank, n, letter) {
-            Next::On(length) => n = length,
-            Next::Unreadable => {
-                output::unreadable(rt);
-                return;
-            }
-            Next::Lost => return,
-        }
-        left -= 1;
+        bench.step(letter)?;
     }
+    Ok(())
 }
 
 fn main(rt: HostRuntime) {
-    let mut buffer = [0u8; 65536];
-    let mut body = [0u8; 65536];
-    let mut bank = [0u32; 32];
-    run(&rt, &mut rt.stdin(), &mut buffer, &mut body, &mut bank);
+    let mut bench = Bench {
+        input: Input {
+            rt: &rt,
+            from: &mut rt.stdin(),
+        },
+        output: Output { rt: &rt },
+        pool: Image::new(),
+        body: [0; 65536],
+        bank: [0; 32],
+    };
+    if run(&mut bench) == Err(Stop::Unreadable) {
+        let _ = bench.output.unreadable();
+    }
 }

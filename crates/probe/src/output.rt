@@ -1,135 +1,87 @@
-// What is written to standard output. Each function answers whether all of it was written; where it was not, that has been said.
-ghost use Rattle.std.specs.Prelude.{◌<◌};
+// What is written to standard output, piece by piece. A piece that is not written has been said, and no other follows it.
+use crate::stop::Stop;
+use paper::{Figures, Refusal};
+use std::fmt;
+use std::fmt::{InlineText, Write};
 
-use itoa::Buffer;
-use paper::{Answer, Figures, Tally};
-
-fn text(rt: &(impl Print + Eprint), s: &[u8]) -> bool {
-    streams::write(rt, s)
-}
-
-// A space and a number.
-pub fn spaced(rt: &(impl Print + Eprint), v: u32) -> bool {
-    if !text(rt, b" ") {
-        return false;
-    }
-    let mut digits = Buffer::new();
-    text(rt, digits.format(v).as_bytes())
-}
-
-pub fn unreadable(rt: &(impl Print + Eprint)) -> bool {
-    text(rt, b"X 7 0\n")
-}
-
-pub fn end_of_line(rt: &(impl Print + Eprint)) -> bool {
-    text(rt, b"\n")
-}
-
-fn numbers(rt: &(impl Print + Eprint), first: u32, second: u32) -> bool {
-    spaced(rt, first) && spaced(rt, second)
-}
-
-fn answer(rt: &(impl Print + Eprint), a: Answer) -> bool {
-    match a {
-        Answer::Done(v) => numbers(rt, 0, v),
-        Answer::Refused(k) => numbers(rt, k as u32, 0),
-    }
-}
-
-// The letter that a line begins with, and an answer's number and value.
-pub fn begin(rt: &(impl Print + Eprint), letter: u8, a: Answer) -> bool {
-    text(rt, &[letter]) && answer(rt, a)
-}
-
-// The letter that a line begins with, and a number alone.
-pub fn number(rt: &(impl Print + Eprint), letter: u8, v: u32) -> bool {
-    text(rt, &[letter]) && spaced(rt, v)
-}
-
-// A whole line of a call.
-pub fn line(rt: &(impl Print + Eprint), letter: u8, a: Answer) -> bool {
-    begin(rt, letter, a) && end_of_line(rt)
-}
-
-fn figures(rt: &(impl Print + Eprint), f: Figures) -> bool {
-    numbers(rt, f.held_blocks, f.held_bytes)
-        && numbers(rt, f.free_small, f.free_large)
-        && numbers(rt, f.remainder, f.free_word)
-        && spaced(rt, f.largest)
-}
-
-pub fn tally(rt: &(impl Print + Eprint), t: Tally) -> bool {
-    text(rt, b"S") && counted(rt, t) && end_of_line(rt)
-}
-
-fn counted(rt: &(impl Print + Eprint), t: Tally) -> bool {
-    match t {
-        Tally::Counted(f) => spaced(rt, 0) && figures(rt, f),
-        Tally::Refused(k) => numbers(rt, k as u32, 0),
-    }
-}
-
-fn digit(v: u8) -> u8 {
-    if v < 10 {
-        48 + v
-    } else if v < 16 {
-        87 + v
-    } else {
-        63
-    }
-}
-
-// Where the next two digits stand: those that fill the buffer are written first.
 #[derive(Drop)]
-struct Place {
-    written: bool,
-    at: usize,
+pub struct Output<'a, R> {
+    pub rt: &'a R,
 }
 
-fn room(rt: &(impl Print + Eprint), digits: &[u8; 4098], used: usize) -> Place
-    ensures { result.at < 4096 }
-{
-    if used < 4096 {
-        return Place {
-            written: true,
-            at: used,
+impl<R: Print + Eprint> Write for Output<'_, R> {
+    fn write_str(&mut self, s: &str) -> fmt::Result {
+        streams::write(self.rt, s.as_bytes()).map_err(|_| fmt::Error)
+    }
+}
+
+impl<R: Print + Eprint> Output<'_, R> {
+    // The letter that a line begins with, and an answer's number and value.
+    pub fn begin(&mut self, letter: char, answer: Result<u32, Refusal>) -> Result<(), Stop> {
+        let (number, value) = match answer {
+            Ok(value) => (0, value),
+            Err(refusal) => (u8::from(refusal), 0),
         };
+        write!(self, "{letter} {number} {value}")?;
+        Ok(())
     }
-    Place {
-        written: text(rt, digits_of(digits, used)),
-        at: 0,
-    }
-}
 
-fn digits_of(digits: &[u8], used: usize) -> &[u8] {
-    let n = digits.len();
-    if n < used {
-        return &digits[n..];
+    pub fn end(&mut self) -> Result<(), Stop> {
+        writeln!(self)?;
+        Ok(())
     }
-    &digits[..used]
-}
 
-// Some bytes in lower-case hex, by way of a buffer; `-` where there are none.
-pub fn hex(rt: &(impl Print + Eprint), s: &[u8]) -> bool {
-    if s.len() == 0 {
-        return text(rt, b" -");
+    // A whole line of a call.
+    pub fn line(&mut self, letter: char, answer: Result<u32, Refusal>) -> Result<(), Stop> {
+        self.begin(letter, answer)?;
+        self.end()
     }
-    if !text(rt, b" ") {
-        return false;
+
+    pub fn unreadable(&mut self) -> Result<(), Stop> {
+        self.line('X', Err(Refusal::Unreadable))
     }
-    let mut digits = [0u8; 4098];
-    let mut used: usize = 0;
-    let mut i = 0;
-    while i < s.len() {
-        let place = room(rt, &digits, used);
-        if !place.written {
-            return false;
+
+    // Each number after a space.
+    pub fn numbers(&mut self, numbers: &[u32]) -> Result<(), Stop> {
+        for v in numbers {
+            write!(self, " {v}")?;
         }
-        let at = place.at;
-        digits[at] = digit(s[i] / 16);
-        digits[at + 1] = digit(s[i] % 16);
-        used = at + 2;
-        i += 1;
+        Ok(())
     }
-    text(rt, digits_of(&digits, used))
+
+    pub fn figures(&mut self, tally: Result<Figures, Refusal>) -> Result<(), Stop> {
+        match tally {
+            Ok(f) => {
+                write!(self, "S 0")?;
+                self.numbers(&[
+                    f.held_blocks,
+                    f.held_bytes,
+                    f.free_small,
+                    f.free_large,
+                    f.remainder,
+                    f.free_word,
+                    f.largest,
+                ])?;
+                self.end()
+            }
+            Err(refusal) => self.line('S', Err(refusal)),
+        }
+    }
+
+    // How many bytes there are, and the bytes in lower-case hex, by way of a buffer; `-` where there are none.
+    pub fn bytes(&mut self, bytes: &[u8]) -> Result<(), Stop> {
+        let n = bytes.len();
+        write!(self, " {n} ")?;
+        if n == 0 {
+            write!(self, "-")?;
+        }
+        for part in bytes.chunks(2048) {
+            let mut digits = InlineText::<4096>::new();
+            for b in part {
+                write!(digits, "{b:02x}")?;
+            }
+            self.write_str(digits.as_str())?;
+        }
+        Ok(())
+    }
 }

@@ -1,113 +1,44 @@
-// The commands of the piston bank, over one pool and one bank of 32 numbers.
-use crate::calls::Outcome;
-use crate::input::Number;
-use crate::{input, output};
-use paper::Answer;
+// The commands of the piston bank, over the pool and a bank of 32 numbers.
+use crate::calls::Bench;
+use crate::stop::Stop;
+use paper::Refusal;
+use std::fmt::Write;
 use std::io::Read;
 
-// B: the bank is these 32 numbers.
-fn given(rt: &(impl Print + Eprint), from: &mut impl Read, bank: &mut [u32; 32]) -> Outcome {
-    let mut bytes = [0u8; 128];
-    if !input::fill(rt, from, &mut bytes) {
-        return Outcome::Unreadable;
+impl<R: Print + Eprint, I: Read> Bench<'_, R, I> {
+    // B: the bank is the 32 numbers that are read.
+    pub fn given(&mut self) -> Result<u32, Stop> {
+        for number in &mut self.bank {
+            *number = self.input.number()?;
+        }
+        Ok(32)
     }
-    let mut i = 0;
-    while i < 32 {
-        bank[i] = words::get32(&bytes, 4 * i);
-        i += 1;
+
+    // K: sets a piston. The body is short, so it is read into an array of its own.
+    pub fn set(&mut self) -> Result<Result<u32, Refusal>, Stop> {
+        let piston = self.input.number()?;
+        let kind = self.input.byte()?;
+        let n = self.input.number()?;
+        let mut body = [0u8; 64];
+        self.input.fill(&mut body, n)?;
+        let pool = self.pool.pool_mut();
+        Ok(bank::set(pool, &mut self.bank, piston, kind, &body[..n as usize]))
     }
-    crate::calls::ended(output::line(rt, b'B', Answer::Done(32)))
-}
 
-// K: sets a piston. The body is short, so it is read into an array of its own.
-fn set(
-    rt: &(impl Print + Eprint),
-    from: &mut impl Read,
-    pool: &mut [u8],
-    bank: &mut [u32; 32],
-) -> Outcome {
-    let Number::Of(piston) = input::next_number(rt, from) else {
-        return Outcome::Unreadable;
-    };
-    let mut kind = [0u8; 1];
-    if !input::fill(rt, from, &mut kind) {
-        return Outcome::Unreadable;
+    // R: recalls a piston.
+    pub fn recalled(&mut self) -> Result<(), Stop> {
+        let piston = self.input.number()?;
+        let recalled = bank::recall(self.pool.pool(), &self.bank, piston);
+        let number = recalled.refusal.map_or(0, u8::from);
+        write!(self.output, "R {number}")?;
+        self.output.bytes(recalled.part)?;
+        self.output.end()
     }
-    let Number::Of(k) = input::next_number(rt, from) else {
-        return Outcome::Unreadable;
-    };
-    if 64 < k {
-        return Outcome::Unreadable;
-    }
-    let size = k as usize;
-    let mut body = [0u8; 64];
-    set_from(rt, from, pool, bank, piston, kind[0], &mut body[..size])
-}
 
-fn set_from(
-    rt: &(impl Print + Eprint),
-    from: &mut impl Read,
-    pool: &mut [u8],
-    bank: &mut [u32; 32],
-    piston: u32,
-    kind: u8,
-    body: &mut [u8],
-) -> Outcome {
-    if !input::fill(rt, from, body) {
-        return Outcome::Unreadable;
-    }
-    crate::calls::ended(output::line(rt, b'K', bank::set(pool, bank, piston, kind, body)))
-}
-
-// R: recalls a piston.
-fn recalled(rt: &(impl Print + Eprint), pool: &[u8], bank: &[u32; 32], piston: u32) -> bool {
-    let place = bank::find(pool, bank, piston);
-    let from = place.from;
-    let to = place.to;
-    let part = &pool[from..to];
-    output::number(rt, b'R', place.number as u32)
-        && output::spaced(rt, crate::calls::length_of(part))
-        && output::hex(rt, part)
-        && output::end_of_line(rt)
-}
-
-// V: the bank's 32 numbers.
-fn shown(rt: &(impl Print + Eprint), bank: &[u32; 32]) -> bool {
-    output::begin(rt, b'V', Answer::Done(32))
-        && crate::calls::counters(rt, bank)
-        && output::end_of_line(rt)
-}
-
-// Q, R: a command with the piston's number.
-fn on_piston(
-    rt: &(impl Print + Eprint),
-    from: &mut impl Read,
-    pool: &mut [u8],
-    bank: &mut [u32; 32],
-    letter: u8,
-) -> Outcome {
-    let Number::Of(piston) = input::next_number(rt, from) else {
-        return Outcome::Unreadable;
-    };
-    if letter == b'Q' {
-        return crate::calls::ended(output::line(rt, b'Q', bank::clear(pool, bank, piston)));
-    }
-    crate::calls::ended(recalled(rt, pool, bank, piston))
-}
-
-// A command of the bank.
-pub fn step(
-    rt: &(impl Print + Eprint),
-    from: &mut impl Read,
-    pool: &mut [u8],
-    bank: &mut [u32; 32],
-    letter: u8,
-) -> Outcome {
-    match letter {
-        b'B' => given(rt, from, bank),
-        b'K' => set(rt, from, pool, bank),
-        b'V' => crate::calls::ended(shown(rt, bank)),
-        b'Q' | b'R' => on_piston(rt, from, pool, bank, letter),
-        _ => Outcome::Unreadable,
+    // V: the bank's 32 numbers.
+    pub fn shown(&mut self) -> Result<(), Stop> {
+        self.output.begin('V', Ok(32))?;
+        self.output.numbers(&self.bank)?;
+        self.output.end()
     }
 }

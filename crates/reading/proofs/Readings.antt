@@ -11,6 +11,7 @@ use Rattle.inspect.specs.Inspection.{inspected, old_inspected}
 use Rattle.inspect.proofs.Decide.{accepted-sound, old-accepted-sound, old-sound-accepted, sound-accepted}
 use Rattle.reading.proofs.Tested.{by-any, reads-by, unique-by}
 use Rattle.reading.specs.Read.{old_read, read}
+use Rattle.paper.specs.declared.Refusal.{Refusal}
 
 pub reading-unique : (bs : List ℕ) (x y : Reading) → Reads bs x → Reads bs y → x ≡ y
 reading-unique = unique-by Edge
@@ -23,7 +24,7 @@ module _ (bs : List ℕ) (bytes : Bytes bs) where
   unfolding read
   reads = reads-by inspected accepted-sound bs (sound-accepted bs) bytes
 
-  pub by-reading : {A : Type 0} (f : ℕ → A) (g : State → A) (x : Reading) → Reads bs x → by_reading (read bs) f g ≡ by_reading x f g
+  pub by-reading : {A : Type 0} (f : Refusal → A) (g : State → A) (x : Reading) → Reads bs x → by_reading (read bs) f g ≡ by_reading x f g
   unfolding read
   by-reading f g x k = by-any inspected accepted-sound bs (sound-accepted bs) bytes f g x k
 
@@ -31,6 +32,6 @@ module _ (bs : List ℕ) (bytes : Bytes bs) where
   unfolding old_read
   old-reads = reads-by old_inspected old-accepted-sound bs (old-sound-accepted bs) bytes
 
-  pub by-old-reading : {A : Type 0} (f : ℕ → A) (g : State → A) (x : Reading) → ReadsBy OldEdge bs x → by_reading (old_read bs) f g ≡ by_reading x f g
+  pub by-old-reading : {A : Type 0} (f : Refusal → A) (g : State → A) (x : Reading) → ReadsBy OldEdge bs x → by_reading (old_read bs) f g ≡ by_reading x f g
   unfolding old_read
   by-old-reading f g x k = by-any old_inspected old-accepted-sound bs (old-sound-accepted bs) bytes f g x k

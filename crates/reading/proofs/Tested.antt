@@ -16,6 +16,7 @@ use Rattle.paper.proofs.reads.Stands.{StandsBy}
 use Rattle.guards.proofs.Guards.{no_both}
 use Rattle.inspect.proofs.Decide.{one_state}
 use Rattle.reading.specs.Read.{bytes?, read_tested, read_allowed, read_by}
+use Rattle.paper.specs.declared.Refusal.{Refusal}
 
 never : {s : State} → broken ≡ sound s → ⊥
 never e = let z : ◌≡◌ {A = ℕ} 0 1 = cc in omega arith
@@ -68,5 +69,5 @@ module _ {Rule : State → Type 0} (test : List ℕ → Bool) (only : (bs : List
     reads-by = reads-allowed (allowed (length bs)) refl
 
     -- so what a call answers goes by any reading that the pool has
-    pub by-any : {A : Type 0} (f : ℕ → A) (g : State → A) (x : Reading) → ReadsBy Rule bs x → by_reading (read_by test only bs) f g ≡ by_reading x f g
+    pub by-any : {A : Type 0} (f : Refusal → A) (g : State → A) (x : Reading) → ReadsBy Rule bs x → by_reading (read_by test only bs) f g ≡ by_reading x f g
     by-any f g x k = ap (λ (y : Reading). by_reading y f g) (unique-by Rule bs (read_by test only bs) x reads-by k)

@@ -8,6 +8,9 @@ use Rattle.paper.specs.Allowed.{allowed}
 use Rattle.paper.specs.Blocks.{State}
 use Rattle.paper.specs.Calls.{Reading, misfit, broken, sound, by_reading}
 use Rattle.paper.specs.Sound.{SoundBy}
+use Rattle.paper.specs.declared.Refusal.{Refusal}
+use Rattle.std.specs.declared.result.Result.{Result}
+use Rattle.std.specs.declared.result.Result.TheVariants.{Ok, Err}
 use Rattle.inspect.specs.Inspection.{edge_held, inspected, old_inspected}
 use Rattle.inspect.proofs.Decide.{accepted-sound, old-accepted-sound}
 
@@ -43,17 +46,21 @@ read bs = read_by inspected accepted-sound bs
 unfoldable pub old_read : List ℕ → Reading
 old_read bs = read_by old_inspected old-accepted-sound bs
 
--- "Tests run in the order 1, 2, then the call's own": the number of the first two, 0 where neither refuses
-unfoldable pub refusal : List ℕ → ℕ
-refusal bs = by_reading (read bs) (λ k. k) (λ s. 0)
+-- refused as the reading is, or not
+abbrev pub said : Reading → Result (Unit {0}) Refusal
+said x = by_reading x Err (λ s. Ok tt)
 
-unfoldable pub old_refusal : List ℕ → ℕ
-old_refusal bs = by_reading (old_read bs) (λ k. k) (λ s. 0)
+-- "Tests run in the order 1, 2, then the call's own": what the first two say
+unfoldable pub checked : List ℕ → Result (Unit {0}) Refusal
+checked bs = said (read bs)
+
+unfoldable pub old_checked : List ℕ → Result (Unit {0}) Refusal
+old_checked bs = said (old_read bs)
 
 -- by one or the other
-unfoldable pub why : Bool → List ℕ → ℕ
-why true bs = old_refusal bs
-why false bs = refusal bs
+unfoldable pub checked_by : Bool → List ℕ → Result (Unit {0}) Refusal
+checked_by true bs = old_checked bs
+checked_by false bs = checked bs
 
 -- the test of the block at E, which the old rule does not ask
 unfoldable pub edge_ok : Bool → List ℕ → Bool

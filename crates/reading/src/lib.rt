@@ -5,36 +5,37 @@ ghost use Rattle.std.specs.Prelude.{◌≡◌};
 ghost use Rattle.reading.specs.Read as call;
 
 pub use inspect::allowed;
+use paper::Refusal;
 
-// 1 where n is not allowed, 2 where the pool is not sound, else 0.
-pub fn refusal(pool: &[u8]) -> u8
-    ensures { result ≡ call.refusal pool.now }
+// Refused where n is not allowed, and where the pool is not sound.
+pub fn check(pool: &[u8]) -> Result<(), Refusal>
+    ensures { result ≡ call.checked pool.now }
 {
-    why(pool, false)
+    check_by(pool, false)
 }
 
 // The same by the old rule, under which a free block could stand at E. For bring-in alone.
-pub fn old_refusal(pool: &[u8]) -> u8
-    ensures { result ≡ call.old_refusal pool.now }
+pub fn check_by_old_rule(pool: &[u8]) -> Result<(), Refusal>
+    ensures { result ≡ call.old_checked pool.now }
 {
-    why(pool, true)
+    check_by(pool, true)
 }
 
 // By the old rule or by the one in force. Both have the same tests but one, and one function has them all: the compiler puts the inspection into its
 // only caller, and keeps what is the same for every block in registers there.
-fn why(pool: &[u8], old: bool) -> u8
-    ensures { result ≡ call.why old pool.now }
+fn check_by(pool: &[u8], old: bool) -> Result<(), Refusal>
+    ensures { result ≡ call.checked_by old pool.now }
 {
     if !allowed(pool.len()) {
-        return paper::NOT_ALLOWED;
+        return Err(Refusal::NotAllowed);
     }
     if !edge_ok(pool, old) {
-        return paper::NOT_SOUND;
+        return Err(Refusal::NotSound);
     }
     if !inspect::sound_by_old_rule(pool) {
-        return paper::NOT_SOUND;
+        return Err(Refusal::NotSound);
     }
-    0
+    Ok(())
 }
 
 // The old rule asks nothing of the block at E.

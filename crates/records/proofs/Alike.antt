@@ -7,26 +7,25 @@ use Prim.Native.Nat.{ℕ, zero, suc, ◌+◌, ◌-◌, ◌≤◌, ◌<◌}
 use native.Mathlib.Omega.{arith}
 use lib.ListN.{length, get_or, set, length-set}
 use lib.Seq.{get_or-set_same, get_or-set_other}
+use Rattle.std.specs.Prelude.{None, Some}
 use Rattle.words.proofs.Laws.{word_in, word_over}
 use Rattle.words.specs.Choice.{by<}
 use Rattle.words.specs.Words.{digits_at, word_at}
 use Rattle.records.specs.declared.request.Request.{Request}
 use Rattle.records.specs.declared.request.Request.TheVariants.{LayOut, LayOutIndexed, Take, GiveBack, Figures}
-use Rattle.records.specs.declared.request.Record.{Record}
-use Rattle.records.specs.declared.request.Record.TheVariants.{Whole, Unreadable}
-use Rattle.records.specs.Records.{kind_of, read_at}
+use Rattle.records.specs.Records.{Record, whole, kind_of, read_at}
 use Rattle.records.specs.Turned.{other, turn, turned_from}
-use Rattle.records.proofs.Records.{onward, never, no_body, short, laid, taken, given, indexed}
+use Rattle.records.proofs.Records.{onward, same, never, no_body, short, laid, taken, given, indexed}
 
 abbrev pub other_record : Record → Record
-other_record (Whole request next) = Whole (other request) next
-other_record Unreadable = Unreadable
+other_record (Some (request, next)) = whole (other request) next
+other_record None = None
 
 -- two tapes whose records are the same from a place on, but for the layout of each lay out
 abbrev pub Alike : (left : ℕ) (tape tape' : List ℕ) (at : ℕ) → Type 0
 Alike zero tape tape' at = Unit {0}
 Alike (suc left) tape tape' at =
-    (read_at tape' at ≡ other_record (read_at tape at)) × ((request : Request) (next : ℕ) → read_at tape at ≡ Whole request next → Alike left tape tape' next)
+    (read_at tape' at ≡ other_record (read_at tape at)) × ((request : Request) (next : ℕ) → read_at tape at ≡ whole request next → Alike left tape tape' next)
 
 -- ---- a record, by the bytes from its place on
 
@@ -68,8 +67,8 @@ turned-long (suc left) tape at = go (turned-long left tape) (read_at tape at)
   where
     go : ((next : ℕ) → length (turned_from left tape next) ≡ length tape) → (x : Record)
         → length (turn x (λ request next. set (turned_from left tape next) at (kind_of (other request))) tape) ≡ length tape
-    go on Unreadable = refl
-    go on (Whole request next) = length-set (turned_from left tape next) at (kind_of (other request)) ∙ on next
+    go on None = refl
+    go on (Some (request, next)) = length-set (turned_from left tape next) at (kind_of (other request)) ∙ on next
 
 -- nothing below the place is turned
 turned-below : (left : ℕ) (tape : List ℕ) (at i : ℕ) → i < at → get_or (turned_from left tape at) i 0 ≡ get_or tape i 0
@@ -79,14 +78,14 @@ turned-below (suc left) tape at i l = go (λ next m. turned-below left tape next
   where
     go : ((next : ℕ) → i < next → get_or (turned_from left tape next) i 0 ≡ get_or tape i 0) → (x : Record) → read_at tape at ≡ x
         → get_or (turn x (λ request next. set (turned_from left tape next) at (kind_of (other request))) tape) i 0 ≡ get_or tape i 0
-    go on Unreadable e = refl
-    go on (Whole request next) e =
+    go on None e = refl
+    go on (Some (request, next)) e =
         get_or-set_other (turned_from left tape next) at i (kind_of (other request)) 0 (omega arith) ∙ on next (omega (arith, (onward tape at e).past-this))
 
 -- a whole record on another tape, which has its body and the other kind
 module _ (tape tape' : List ℕ) (at : ℕ) (long : length tape' ≡ length tape) where
   -- of a record with a body
-  module _ (request : Request) (next : ℕ) (e : read_at tape at ≡ Whole request next) (n4 : get_or tape at 0 ≢ 4) where
+  module _ (request : Request) (next : ℕ) (e : read_at tape at ≡ whole request next) (n4 : get_or tape at 0 ≢ 4) where
     inside : at < length tape
     inside = omega (arith, onward tape at e)
 
@@ -94,44 +93,44 @@ module _ (tape tape' : List ℕ) (at : ℕ) (long : length tape' ≡ length tape
     room = by< (length tape - (at + 1)) 4 (λ l. absurd (never (short tape at inside n4 l ∙ e))) (λ l. l)
 
     -- the body is the request's number n, and the next record is past it
-    module _ (make : ℕ → Request) (n : ℕ) (is : Whole (make (word_at 4 tape (at + 1))) (at + 1 + 4) ≡ Whole request next → word_at 4 tape (at + 1) ≡ n)
-        (was : Whole (make (word_at 4 tape (at + 1))) (at + 1 + 4) ≡ read_at tape at) (h : (i : ℕ) → at < i → i < next → get_or tape' i 0 ≡ get_or tape i 0)
+    module _ (make : ℕ → Request) (n : ℕ) (is : whole (make (word_at 4 tape (at + 1))) (at + 1 + 4) ≡ whole request next → word_at 4 tape (at + 1) ≡ n)
+        (was : whole (make (word_at 4 tape (at + 1))) (at + 1 + 4) ≡ read_at tape at) (h : (i : ℕ) → at < i → i < next → get_or tape' i 0 ≡ get_or tape i 0)
         (made : ℕ → Request) (now : (v : ℕ) → v ≡ word_at 4 tape' (at + 1) → at < length tape' → 4 ≤ length tape' - (at + 1)
-        → Whole (made v) (at + 1 + 4) ≡ read_at tape' at) where
-      with-body : read_at tape' at ≡ Whole (made n) next
+        → whole (made v) (at + 1 + 4) ≡ read_at tape' at) where
+      with-body : read_at tape' at ≡ whole (made n) next
       with-body =
-          let w : Whole (make (word_at 4 tape (at + 1))) (at + 1 + 4) ≡ Whole request next = was ∙ e in
-          let place : at + 1 + 4 ≡ next = cc in
+          let w : whole (make (word_at 4 tape (at + 1))) (at + 1 + 4) ≡ whole request next = was ∙ e in
+          let place : at + 1 + 4 ≡ next = (same w).1 in
           let body : word_at 4 tape' (at + 1) ≡ n = same_body tape tape' at long (λ i a b. h i a (omega arith)) ∙ is w in
-          sym (now n (sym body) (omega (arith, inside)) (omega (arith, room))) ∙ ap (Whole (made n)) place
+          sym (now n (sym body) (omega (arith, inside)) (omega (arith, room))) ∙ ap (whole (made n)) place
 
-  turned-record : (request : Request) (next : ℕ) → read_at tape at ≡ Whole request next → get_or tape' at 0 ≡ kind_of (other request)
-      → ((i : ℕ) → at < i → i < next → get_or tape' i 0 ≡ get_or tape i 0) → read_at tape' at ≡ Whole (other request) next
+  turned-record : (request : Request) (next : ℕ) → read_at tape at ≡ whole request next → get_or tape' at 0 ≡ kind_of (other request)
+      → ((i : ℕ) → at < i → i < next → get_or tape' i 0 ≡ get_or tape i 0) → read_at tape' at ≡ whole (other request) next
   turned-record (LayOut n) next e k h =
       let o = (onward tape at e).kind in let n4 : get_or tape at 0 ≢ 4 = omega arith in
-      with-body (LayOut n) next e n4 LayOut n (λ w. cc)
+      with-body (LayOut n) next e n4 LayOut n (λ w. cc ((same w).0))
       (laid tape at _ refl (inside (LayOut n) next e n4) n4 (room (LayOut n) next e n4) o) h LayOutIndexed
       (λ v q l m. indexed tape' at v q l (omega arith) m (omega arith) (omega arith) (omega arith) k)
   turned-record (LayOutIndexed n) next e k h =
       let o = (onward tape at e).kind in let n4 : get_or tape at 0 ≢ 4 = omega arith in
-      with-body (LayOutIndexed n) next e n4 LayOutIndexed n (λ w. cc)
+      with-body (LayOutIndexed n) next e n4 LayOutIndexed n (λ w. cc ((same w).0))
       (indexed tape at _ refl (inside (LayOutIndexed n) next e n4) n4 (room (LayOutIndexed n) next e n4) (omega arith) (omega arith) (omega arith) o) h LayOut
       (λ v q l m. laid tape' at v q l (omega arith) m k)
   turned-record (Take n) next e k h =
       let o = (onward tape at e).kind in let n4 : get_or tape at 0 ≢ 4 = omega arith in
-      with-body (Take n) next e n4 Take n (λ w. cc)
+      with-body (Take n) next e n4 Take n (λ w. cc ((same w).0))
       (taken tape at _ refl (inside (Take n) next e n4) n4 (room (Take n) next e n4) (omega arith) o) h Take
       (λ v q l m. taken tape' at v q l (omega arith) m (omega arith) k)
   turned-record (GiveBack n) next e k h =
       let o = (onward tape at e).kind in let n4 : get_or tape at 0 ≢ 4 = omega arith in
-      with-body (GiveBack n) next e n4 GiveBack n (λ w. cc)
+      with-body (GiveBack n) next e n4 GiveBack n (λ w. cc ((same w).0))
       (given tape at _ refl (inside (GiveBack n) next e n4) n4 (room (GiveBack n) next e n4) (omega arith) (omega arith) o) h GiveBack
       (λ v q l m. given tape' at v q l (omega arith) m (omega arith) (omega arith) k)
   turned-record Figures next e k h =
       let o = onward tape at e in
-      let w : Whole Figures (at + 1) ≡ Whole Figures next = no_body tape at (omega arith) o.kind ∙ e in
-      let place : at + 1 ≡ next = cc in
-      sym (no_body tape' at (omega (arith, o)) k) ∙ ap (Whole Figures) place
+      let w : whole Figures (at + 1) ≡ whole Figures next = no_body tape at (omega arith) o.kind ∙ e in
+      let place : at + 1 ≡ next = (same w).1 in
+      sym (no_body tape' at (omega (arith, o)) k) ∙ ap (whole Figures) place
 
 pub turned-alike : (left : ℕ) (tape : List ℕ) (at : ℕ) → Alike left tape (turned_from left tape at) at
 unfolding turned_from
@@ -140,14 +139,14 @@ turned-alike (suc left) tape at = go (turned-alike left tape) (read_at tape at) 
   where
     go : ((next : ℕ) → Alike left tape (turned_from left tape next) next) → (x : Record) → read_at tape at ≡ x
         → Alike (suc left) tape (turn x (λ request next. set (turned_from left tape next) at (kind_of (other request))) tape) at
-    go on Unreadable e = (e ∙ sym (ap other_record e), λ request next f. absurd (never (sym e ∙ f)))
-    go on (Whole request next) e =
+    go on None e = (e ∙ sym (ap other_record e), λ request next f. absurd (never (sym e ∙ f)))
+    go on (Some (request, next)) e =
         let T : List ℕ = turned_from left tape next in
         let o = onward tape at e in (
           turned-record tape (set T at (kind_of (other request))) at (length-set T at (kind_of (other request)) ∙ turned-long left tape next) request next e
               (get_or-set_same T at (kind_of (other request)) 0 (omega (arith, turned-long left tape next, o)))
               (λ i a b. get_or-set_other T at i (kind_of (other request)) 0 (omega arith) ∙ turned-below left tape next i b)
               ∙ sym (ap other_record e),
-          λ r n f. let w : Whole request next ≡ Whole r n = sym e ∙ f in let m : next ≡ n = cc in
+          λ r n f. let w : whole request next ≡ whole r n = sym e ∙ f in let m : next ≡ n = (same w).1 in
               subst (Alike left tape (set T at (kind_of (other request)))) m (alike_set left tape T at (kind_of (other request)) next o.past-this (on next)),
         )

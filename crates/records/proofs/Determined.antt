@@ -2,8 +2,7 @@
 use mathlib.Core.Path.{◌≡◌, sym, ◌∙◌}
 use mathlib.Core.List.{List}
 use Prim.Native.Nat.{ℕ}
-use Rattle.records.specs.declared.request.Record.{Record}
-use Rattle.records.specs.Records.{read_at}
+use Rattle.records.specs.Records.{Record, read_at}
 
 pub record-at-determined : (tape : List ℕ) (at : ℕ) (r r' : Record) → r ≡ read_at tape at → r' ≡ read_at tape at → r ≡ r'
 record-at-determined tape at r r' e f = e ∙ sym f

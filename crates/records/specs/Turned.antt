@@ -1,10 +1,8 @@
 -- "One tape answers alike on both, apart from the layout letter" (request 2026-04): a tape with each lay-out record turned into the other kind.
-use Rattle.std.specs.Prelude.{List, ℕ, zero, suc, length, set}
+use Rattle.std.specs.Prelude.{None, Some, List, ℕ, zero, suc, length, set}
 use Rattle.records.specs.declared.request.Request.{Request}
 use Rattle.records.specs.declared.request.Request.TheVariants.{LayOut, LayOutIndexed, Take, GiveBack, Figures}
-use Rattle.records.specs.declared.request.Record.{Record}
-use Rattle.records.specs.declared.request.Record.TheVariants.{Whole, Unreadable}
-use Rattle.records.specs.Records.{kind_of, read_at}
+use Rattle.records.specs.Records.{Record, kind_of, read_at}
 
 -- the same request, but for the layout
 abbrev pub other : Request → Request
@@ -15,8 +13,8 @@ other (GiveBack offset) = GiveBack offset
 other Figures = Figures
 
 abbrev pub turn : Record → (Request → ℕ → List ℕ) → List ℕ → List ℕ
-turn (Whole request next) whole stopped = whole request next
-turn Unreadable whole stopped = stopped
+turn (Some (request, next)) whole stopped = whole request next
+turn None whole stopped = stopped
 
 -- the records from a place on; `left` bounds how many they are
 unfoldable pub turned_from : (left : ℕ) (tape : List ℕ) (at : ℕ) → List ℕ

@@ -5,4 +5,4 @@ mod reader;
 mod request;
 
 pub use reader::record_at;
-pub use request::{Record, Request};
+pub use request::Request;

@@ -2,6 +2,7 @@
 ghost use Rattle.std.specs.Prelude.{◌≡◌};
 ghost use Rattle.records.specs.Records.{read_at};
 
+// The bytes of kind as the tape has them: `read` is the one place that turns them into a request, so an enum of them would stand between.
 const LAY_OUT: u8 = 1;
 
 const TAKE: u8 = 2;
@@ -13,7 +14,7 @@ const FIGURES: u8 = 4;
 const LAY_OUT_INDEXED: u8 = 5;
 
 // A lay out in layout 1, and one in layout 2, with the index; a take, a give-back, and the figures.
-#[derive(Drop)]
+#[derive(Clone, Copy, Debug, PartialEq, Eq)]
 pub enum Request {
     LayOut(u32),
     LayOutIndexed(u32),
@@ -22,39 +23,25 @@ pub enum Request {
     Figures,
 }
 
-// What stands at a place of the tape: a whole record, with the place of the next one, or none that can be read.
-#[derive(Drop)]
-pub enum Record {
-    Whole(Request, usize),
-    Unreadable,
-}
-
-pub fn read(tape: &[u8], at: usize) -> Record
+// The whole record at a place of the tape, with the place of the next one; none where it cannot be read.
+pub fn read(tape: &[u8], at: usize) -> Option<(Request, usize)>
     ensures { result ≡ read_at tape.now at }
 {
-    if tape.len() <= at {
-        return Record::Unreadable;
-    }
-    let kind = tape[at];
+    let kind = *tape.get(at)?;
     let body = at + 1;
     if kind == FIGURES {
-        return Record::Whole(Request::Figures, body);
+        return Some((Request::Figures, body));
     }
     if tape.len() - body < 4 {
-        return Record::Unreadable;
+        return None;
     }
-    let number = words::get32(tape, body);
-    if kind == LAY_OUT {
-        return Record::Whole(Request::LayOut(number), body + 4);
+    let number = words::get::<u32>(tape, body);
+    let next = body + 4;
+    match kind {
+        LAY_OUT => Some((Request::LayOut(number), next)),
+        TAKE => Some((Request::Take(number), next)),
+        GIVE_BACK => Some((Request::GiveBack(number), next)),
+        LAY_OUT_INDEXED => Some((Request::LayOutIndexed(number), next)),
+        _ => None,
     }
-    if kind == TAKE {
-        return Record::Whole(Request::Take(number), body + 4);
-    }
-    if kind == GIVE_BACK {
-        return Record::Whole(Request::GiveBack(number), body + 4);
-    }
-    if kind == LAY_OUT_INDEXED {
-        return Record::Whole(Request::LayOutIndexed(number), body + 4);
-    }
-    Record::Unreadable
 }

@@ -1,32 +1,47 @@
 -- Where each way out of a walk over blocks leads, and that the walk goes on.
-use mathlib.Core.Bool.{Bool, false, not, true}
+use mathlib.Core.Bool.{Bool, false, true}
 use mathlib.Core.List.{List}
 use mathlib.Core.Path.{◌∙◌, ◌≡◌, ap, refl, sym}
 use Prim.Native.Nat.{◌%◌, ◌*◌, ◌+◌, ◌-◌, ◌/◌, ◌<◌, ◌≤◌, suc, zero, ℕ}
 use native.Mathlib.Omega.{arith}
-use lib.Dec.{eqb, leb}
+use lib.Dec.{eqb, leb, ltb}
 use lib.ListN.{length}
-use borrow.Author.Tests.{eq-eqb, eqb-true, le-leb, leb-true, ne_eqb, not-false, not-true}
-use Rattle.guards.proofs.Guards.{guard-fail, guard-inv, guard-pass, no_both, pass-is, pass-no, passed}
+use borrow.Author.Tests.{eq-eqb, eqb-true, le-leb, leb-true, lt-ltb, ltb-true}
+use Rattle.guards.proofs.Guards.{guard-fail, guard-inv, guard-pass, guard-yes, no_both, pass-is, pass-no}
 use Rattle.guards.specs.Tests.{pass}
 use Rattle.heads.specs.Heads.{flags_at, flags_of, free_flags, held_flags, size_at, size_of}
 use Rattle.marks.proofs.Laws.{length-put}
 use Rattle.marks.specs.MarkSets.{bit_marks}
 use Rattle.marks.specs.Marks.{put_bit_at}
-use Rattle.paper.specs.Layout.{blocks_at, large}
-use Rattle.runs.specs.Contract.{pick_seen, to_seen}
-use Rattle.runs.specs.Runs.{Scanned, fit_size, fit_tests, foot_of, free_at, free_tests, if_seen, scan, scanned_between, small, stray}
-use Rattle.words.specs.Choice.{by<, by=, if<-no, if<-yes, if=-no, if=-yes}
+use Rattle.paper.specs.Layout.{large}
+use Rattle.runs.specs.Contract.{of_kind}
+use Rattle.runs.specs.Runs.{Scanned, fit_size, fit_tests, foot_of, free_at, free_tests, scan, seen, small, stray}
+use Rattle.words.specs.Choice.{by<, if<-no, if<-yes, if=-no, if=-yes}
 use Rattle.words.specs.Words.{word_at}
-use Rattle.runs.specs.declared.Seen.{Seen}
 
 -- ---- the tests of a head
 
-pub fit-last : (z c e p : ℕ) {d : ℕ} → 8 ≤ z → d ≡ small z → d ≡ c → z % 8 ≡ 0 → leb (p + z) e ≡ pass (fit_size z c e p)
-fit-last z c e p a ed dc z8 =
-    pass-is (fit_size z c e p) (leb (p + z) e)
-    (λ h. (omega arith, (sym ed ∙ dc, (z8, (omega (arith, leb-true (p + z) e h), tt)))))
-    (λ t. le-leb (p + z) e (omega (arith, t.1.1.1.0)))
+pub small-is : (z : ℕ) → 8 ≤ z → ltb z large ≡ pass (of_kind z 1)
+small-is z a =
+    pass-is (of_kind z 1) (ltb z large) (λ h. (omega arith, (if<-yes z large _ _ (ltb-true z large h), tt)))
+    (λ t. lt-ltb z large (by< z large (λ l. l) (λ l. absurd (omega (arith, t.1.0, if<-no {A = ℕ} z large 1 0 l)))))
+
+pub large-is : (z : ℕ) → leb large z ≡ pass (of_kind z 0)
+large-is z =
+    pass-is (of_kind z 0) (leb large z) (λ h. (omega (arith, leb-true large z h), (if<-no z large _ _ (leb-true large z h), tt)))
+    (λ t. le-leb large z (by< z large (λ l. absurd (omega (arith, t.1.0, if<-yes {A = ℕ} z large 1 0 l))) (λ l. l)))
+
+-- another size is refused; where the size is one of theirs, the room decides
+module _ (z c e p : ℕ) {b : Bool} (eb : b ≡ pass (of_kind z c)) where
+  pub not_theirs : b ≡ false → false ≡ pass (fit_size z c e p)
+  not_theirs h =
+      pass-no (fit_size z c e p) (λ t. no_both (sym h ∙ eb ∙ guard-yes (of_kind z c) false true (t.0, (t.1.0, tt))))
+
+  pub fit-last : b ≡ true → z % 8 ≡ 0 → leb (p + z) e ≡ pass (fit_size z c e p)
+  fit-last h z8 =
+      let k = (guard-inv (of_kind z c) false true true no_both (sym eb ∙ h)).0 in
+      pass-is (fit_size z c e p) (leb (p + z) e) (λ i. (k.0, (k.1.0, (z8, (omega (arith, leb-true (p + z) e i), tt)))))
+      (λ t. le-leb (p + z) e (omega (arith, t.1.1.1.0)))
 
 -- what has passed
 pub record Fits (z c e p : ℕ) : Type 0 where
@@ -34,26 +49,34 @@ pub record Fits (z c e p : ℕ) : Type 0 where
   pub kind : small z ≡ c
   pub room : p + z ≤ e
 
-pub fit-facts : (z c e p : ℕ) {b : Bool} → b ≡ pass (fit_size z c e p) → not b ≡ false → Fits z c e p
-fit-facts z c e p h i =
-    let r = (guard-inv (fit_size z c e p) false true true no_both (passed h i)).0 in
+pub fit_facts : (z c e p : ℕ) {b : Bool} → b ≡ pass (fit_size z c e p) → b ≡ true → Fits z c e p
+fit_facts z c e p h i =
+    let r = (guard-inv (fit_size z c e p) false true true no_both (sym h ∙ i)).0 in
     record { eight = omega (arith, r.0); kind = r.1.0; room = omega (arith, r.1.1.1.0) }
 
-pub is-small : {z e p : ℕ} → Fits z 1 e p → z < large
-is-small {z} f = by< z large (λ l. l) (λ l. absurd (omega (arith, f.kind, if<-no {A = ℕ} z large 1 0 l)))
-
 -- a small block has no footer
-pub free-small : (s : List ℕ) (w due p : ℕ) → due ≡ held_flags → flags_of w ≡ free_flags → size_of w < large → true ≡ pass (free_at s w due p)
-free-small s w due p a b l = pass-is (free_at s w due p) true (λ h. (a, (b, (if<-yes (size_of w) large _ _ l, tt)))) (λ t. refl)
+pub small-ends : (s : List ℕ) (w p : ℕ) → small (size_of w) ≡ 1 → true ≡ eqb (foot_of s w p) w
+small-ends s w p k =
+    sym (eq-eqb _ _ (if<-yes (size_of w) large w _
+    (by< (size_of w) large (λ l. l) (λ l. absurd (omega (arith, k, if<-no {A = ℕ} (size_of w) large 1 0 l))))))
+
+pub at-least-large : (z : ℕ) → small z ≡ 0 → large ≤ z
+at-least-large z k = by< z large (λ l. absurd (omega (arith, k, if<-yes {A = ℕ} z large 1 0 l))) (λ l. l)
+
+pub large-ends : (s : List ℕ) (w p : ℕ) {z u : ℕ} → small (size_of w) ≡ 0 → z ≡ size_of w → u ≡ word_at 4 s (p + (z - 4))
+    → eqb u w ≡ eqb (foot_of s w p) w
+large-ends s w p {z} {u} k ez e =
+    let foot : foot_of s w p ≡ u =
+    if<-no (size_of w) large _ _ (at-least-large (size_of w) k) ∙ ap (λ (v : ℕ). word_at 4 s (p + (v - 4))) (sym ez) ∙ sym e in
+    ap (λ (v : ℕ). eqb v w) (sym foot)
 
 pub not_free : (s : List ℕ) (w due p : ℕ) → (flags_of w ≡ free_flags → ⊥) → false ≡ pass (free_at s w due p)
 not_free s w due p n = pass-no (free_at s w due p) (λ t. n t.1.0)
 
-pub free-large : (s : List ℕ) (w due p : ℕ) {z u : ℕ} → due ≡ held_flags → flags_of w ≡ free_flags → z ≡ size_of w → large ≤ z
-    → u ≡ word_at 4 s (p + (z - 4)) → eqb u w ≡ pass (free_at s w due p)
-free-large s w due p {z} {u} a b ez l e =
-    let foot : foot_of s w p ≡ u = if<-no (size_of w) large _ _ (omega arith) ∙ ap (λ (v : ℕ). word_at 4 s (p + (v - 4))) (sym ez) ∙ sym e in
-    pass-is (free_at s w due p) (eqb u w) (λ h. (a, (b, (foot ∙ eqb-true _ _ h, tt)))) (λ t. eq-eqb _ _ (sym foot ∙ t.1.1.0))
+pub free-last : (s : List ℕ) (w due p : ℕ) {b : Bool} → due ≡ held_flags → flags_of w ≡ free_flags → b ≡ eqb (foot_of s w p) w
+    → b ≡ pass (free_at s w due p)
+free-last s w due p {b} h f e =
+    pass-is (free_at s w due p) b (λ i. (h, (f, (eqb-true _ _ (sym e ∙ i), tt)))) (λ t. e ∙ eq-eqb _ _ t.1.1.0)
 
 -- ---- the loop: the whole walk is the walk from here
 
@@ -81,14 +104,16 @@ begin s m c e from n0 sum0 a =
     }
 
 module _ (s : List ℕ) (c e : ℕ) where
-  at-end : (k p due n : ℕ) (m : List ℕ) (sum : ℕ) → p ≡ e → e < p + k
-      → scan bit_marks s k c e p due n m sum ≡ pick_seen (eqb due held_flags) n m sum
+  at-end : (k p due n : ℕ) (m : List ℕ) (sum : ℕ) → p ≡ e → e < p + k → due ≡ held_flags → scan bit_marks s k c e p due n m sum ≡ seen n m sum
   unfolding scan
-  at-end zero p due n m sum h l = absurd (omega arith)
-  at-end (suc k) p due n m sum h l =
-      if=-yes p e _ _ h
-      ∙ by= due held_flags (λ i. if=-yes due held_flags _ _ i ∙ sym (ap (λ (b : Bool). pick_seen b n m sum) (eq-eqb due held_flags i)))
-      (λ i. if=-no due held_flags _ _ i ∙ sym (ap (λ (b : Bool). pick_seen b n m sum) (ne_eqb due held_flags i)))
+  at-end zero p due n m sum h l i = absurd (omega arith)
+  at-end (suc k) p due n m sum h l i = if=-yes p e _ _ h ∙ if=-yes due held_flags _ _ i
+
+  -- a free block is the last one
+  below-end : (k p due n : ℕ) (m : List ℕ) (sum : ℕ) → p ≡ e → (due ≡ held_flags → ⊥) → scan bit_marks s k c e p due n m sum ≡ stray
+  unfolding scan
+  below-end zero p due n m sum h i = refl
+  below-end (suc k) p due n m sum h i = if=-yes p e _ _ h ∙ if=-no due held_flags _ _ i
 
   unfit : (k p due n : ℕ) (m : List ℕ) (sum : ℕ) → (p ≡ e → ⊥) → pass (fit_tests s c e p) ≡ false → scan bit_marks s k c e p due n m sum ≡ stray
   unfolding scan
@@ -125,8 +150,11 @@ module _ {s m₀ : List ℕ} {c e from n0 sum0 : ℕ} {m : List ℕ} {p due n su
   abbrev Run : Scanned (List ℕ)
   Run = scan bit_marks s (suc e) c e from held_flags n0 m₀ sum0
 
-  pub scan-done : p ≡ e → pick_seen (eqb due held_flags) n m sum ≡ Run
-  scan-done h = sym (g.all ∙ at-end s c e g.fuel p due n m sum h g.enough)
+  pub scan-done : p ≡ e → due ≡ held_flags → seen n m sum ≡ Run
+  scan-done h i = sym (g.all ∙ at-end s c e g.fuel p due n m sum h g.enough i)
+
+  pub scan-due : p ≡ e → (due ≡ held_flags → ⊥) → stray ≡ Run
+  scan-due h i = sym (g.all ∙ below-end s c e g.fuel p due n m sum h i)
 
   -- the head w at p, and whether its size z fits
   module _ (ne : p ≡ e → ⊥) {w z : ℕ} (ew : w ≡ word_at 4 s p) (ez : z ≡ size_of w) {b : Bool} (eb : b ≡ pass (fit_size z c e p)) where
@@ -136,16 +164,16 @@ module _ {s m₀ : List ℕ} {c e from n0 sum0 : ℕ} {m : List ℕ} {p due n su
     fit_at : b ≡ pass (fit_tests s c e p)
     fit_at = eb ∙ ap (λ (v : ℕ). pass (fit_size v c e p)) size
 
-    pub scan-unfit : not b ≡ true → stray ≡ Run
-    scan-unfit j = sym (g.all ∙ unfit s c e g.fuel p due n m sum ne (sym fit_at ∙ not-true _ j))
+    pub scan-unfit : b ≡ false → stray ≡ Run
+    scan-unfit j = sym (g.all ∙ unfit s c e g.fuel p due n m sum ne (sym fit_at ∙ j))
 
     -- it does; its flags are f
-    module _ (j : not b ≡ false) {f : ℕ} (ef : f ≡ flags_of w) where
+    module _ (j : b ≡ true) {f : ℕ} (ef : f ≡ flags_of w) where
       fits : pass (fit_tests s c e p) ≡ true
-      fits = passed fit_at j
+      fits = sym fit_at ∙ j
 
       fit : Fits z c e p
-      fit = fit-facts z c e p eb j
+      fit = fit_facts z c e p eb j
 
       flags : f ≡ flags_at s p
       flags = ef ∙ ap (λ (v : ℕ). flags_of v) ew
@@ -191,18 +219,3 @@ module _ {s m₀ : List ℕ} {c e from n0 sum0 : ℕ} {m : List ℕ} {p due n su
           where
             next : (n : ℕ) → suc n ≡ n + 1
             next n = omega arith
-
--- ---- both runs
-
-module _ (s m m' : List ℕ) (a b e : ℕ) (r : Seen) (h : to_seen r m' ≡ scan bit_marks s (suc a) 0 a blocks_at held_flags 0 m 0) where
-  abbrev on : Scanned (List ℕ) → Scanned (List ℕ)
-  on v = if_seen v stray (λ n ms sum. scan bit_marks s (suc e) 1 e b held_flags n ms sum)
-
-  pub both-lost : not r.ok ≡ true → to_seen r m' ≡ scanned_between bit_marks s a b e m
-  both-lost i =
-      let lost : to_seen r m' ≡ stray = ap (λ (c : Bool). pick_seen c r.count m' r.sum) (not-true r.ok i) in
-      lost ∙ sym (ap on (sym h ∙ lost))
-
-  pub both-on : {x : Scanned (List ℕ)} → not r.ok ≡ false → x ≡ scan bit_marks s (suc e) 1 e b held_flags r.count m' r.sum
-      → x ≡ scanned_between bit_marks s a b e m
-  both-on i ex = ex ∙ sym (ap on (sym h) ∙ ap (λ (c : Bool). on (pick_seen c r.count m' r.sum)) (not-false r.ok i))

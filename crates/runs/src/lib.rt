@@ -1,123 +1,133 @@
 // A run of blocks end to end, read by their heads; each free one is marked, counted and summed.
 #![tactic(auto)]
 
-ghost use Rattle.std.specs.Prelude.{◌≡◌};
+ghost use Rattle.std.specs.Prelude.{◌≡◌, ◌+◌, ◌*◌, ◌<◌, ◌^◌, ℕ, eqb};
 ghost use Rattle.guards.specs.Tests.{pass};
+ghost use Rattle.heads.specs.Heads.{size_of};
 ghost use Rattle.paper.specs.Layout.{blocks_at};
-ghost use Rattle.runs.specs.Runs.{fit_size, free_at};
-ghost use Rattle.runs.specs.Contract.{Scans, ScansBoth};
+ghost use Rattle.runs.specs.Runs.{fit_size, foot_of, free_at, small};
+ghost use Rattle.runs.specs.Contract.{Scans, ScansBoth, of_kind};
 
 use heads::{FREE, HELD, HELD_ABOVE_FREE};
 use paper::{BLOCKS, LARGE};
 
-#[derive(Clone, Copy)]
+// How many free blocks there were, and the sum of their sizes.
+#[derive(Clone, Copy, Debug, PartialEq, Eq)]
 pub struct Seen {
-    pub ok: bool,
     pub count: usize,
     pub sum: usize,
 }
 
-// The large blocks up to a, then the small ones from b to e.
-pub fn scan_both(pool: &[u8], m: &mut [u64], a: u32, b: u32, e: u32) -> Seen
-    ensures { ScansBoth pool.now a b e m.old m.new result }
-{
-    let lo = scan_large(pool, m, a);
-    if !lo.ok {
-        return lo;
-    }
-    scan_small(pool, m, e, b, lo.count as u32, lo.sum as u32)
+// The blocks of a run are of one kind, small or large. What differs between the two:
+trait Kind {
+    // 1 for small blocks, 0 for large ones.
+    ghost kind: { ℕ };
+
+    // Whether a size is one of theirs.
+    fn has(z: u32) -> bool
+        ensures { result ≡ pass (of_kind z kind) };
+
+    // Whether the free block at p with the head w ends as it must: a large one repeats its head there.
+    fn ends(pool: &[u8], w: u32, p: u32) -> bool
+        requires { small (size_of w) ≡ kind }
+        ensures { result ≡ eqb (foot_of pool.now w p) w };
+
+    // The flags of a held block above a free one.
+    fn above_free() -> u32
+        ensures { result ≡ 2 * kind + 1 };
 }
 
-// The large blocks up to e. `due` is what the flags of a held block must be here. A free block needs them to have P, so no two free ones touch.
-fn scan_large(pool: &[u8], m: &mut [u64], e: u32) -> Seen
-    ensures { Scans pool.now 0 e blocks_at 0 0 m.old m.new result }
-{
-    let mut p = BLOCKS;
-    let mut due = HELD;
-    let mut n = 0;
-    let mut sum = 0;
-    while p != e {
-        let w = words::get32(pool, p as usize);
+struct Large;
+
+impl Kind for Large {
+    ghost kind = { 0 };
+
+    fn has(z: u32) -> bool {
+        LARGE <= z
+    }
+
+    fn ends(pool: &[u8], w: u32, p: u32) -> bool {
         let z = heads::size_of(w);
-        if !fits_large(z, e, p) {
-            return Seen {
-                ok: false,
-                count: 0,
-                sum: 0,
-            };
+        words::field(pool, p, z - 4) == w
+    }
+
+    fn above_free() -> u32 {
+        HELD_ABOVE_FREE
+    }
+}
+
+struct Small;
+
+impl Kind for Small {
+    ghost kind = { 1 };
+
+    fn has(z: u32) -> bool {
+        if z < 8 {
+            return false;
+        }
+        z < LARGE
+    }
+
+    fn ends(_pool: &[u8], _w: u32, _p: u32) -> bool {
+        true
+    }
+
+    fn above_free() -> u32 {
+        HELD
+    }
+}
+
+// The large blocks up to a, then the small ones from b to e.
+pub fn scan_both(pool: &[u8], m: &mut [u64], a: u32, b: u32, e: u32) -> Option<Seen>
+    ensures { ScansBoth pool.now a b e m.old m.new result }
+{
+    let none = Seen { count: 0, sum: 0 };
+    let low = scan::<Large>(pool, m, BLOCKS, a, none)?;
+    scan::<Small>(pool, m, b, e, low)
+}
+
+// The blocks of one kind from `from` to e; `before` is what was seen before them. `due` is what the flags of a held block must be here. A free block
+// needs them to have P, so no two free ones touch. Among small blocks each has P: there `due` is a constant, as are the bounds of a size, and this
+// loop is what an inspection mostly does.
+#[tactic(auto, using(crate::proofs::Laws::fit_facts))]
+fn scan<K: Kind>(pool: &[u8], m: &mut [u64], from: u32, e: u32, before: Seen) -> Option<Seen>
+    requires few { before.count < 2 ^ 32 }
+    requires less_sum { before.sum < 2 ^ 32 }
+    ensures { Scans pool.now K.kind e from before.count before.sum m.old m.new result }
+{
+    let mut p = from;
+    let mut due = HELD;
+    let mut seen = before;
+    while p != e {
+        let w = words::get::<u32>(pool, p as usize);
+        let z = heads::size_of(w);
+        if !fits::<K>(z, e, p) {
+            return None;
         }
         if heads::flags_of(w) == due {
             due = HELD;
-            p += z;
-            continue;
+        } else {
+            if !free_ok::<K>(pool, w, due, p) {
+                return None;
+            }
+            marks::mark(m, p);
+            seen.count += 1;
+            seen.sum += z as usize;
+            due = K::above_free();
         }
-        if !free_ok(pool, w, due, p) {
-            return Seen {
-                ok: false,
-                count: 0,
-                sum: 0,
-            };
-        }
-        marks::mark(m, p);
-        n += 1;
-        sum += z as usize;
-        due = HELD_ABOVE_FREE;
         p += z;
     }
-    Seen {
-        ok: due == HELD,
-        count: n,
-        sum,
+    if due != HELD {
+        return None;
     }
+    Some(seen)
 }
 
-// The small blocks from `from` to e. Each has P, so the walk carries no flag; with that, and with tests of constants, this loop
-// is what an inspection mostly does.
-fn scan_small(pool: &[u8], m: &mut [u64], e: u32, from: u32, n0: u32, sum0: u32) -> Seen
-    ensures { Scans pool.now 1 e from n0 sum0 m.old m.new result }
+// A block of size z at p, in a run that ends at e.
+fn fits<K: Kind>(z: u32, e: u32, p: u32) -> bool
+    ensures { result ≡ pass (fit_size z K.kind e p) }
 {
-    let mut p = from;
-    let mut n = n0 as usize;
-    let mut sum = sum0 as usize;
-    while p != e {
-        let w = words::get32(pool, p as usize);
-        let z = heads::size_of(w);
-        if !fits_small(z, e, p) {
-            return Seen {
-                ok: false,
-                count: 0,
-                sum: 0,
-            };
-        }
-        let flags = heads::flags_of(w);
-        if flags == HELD {
-            p += z;
-            continue;
-        }
-        if flags != FREE {
-            return Seen {
-                ok: false,
-                count: 0,
-                sum: 0,
-            };
-        }
-        marks::mark(m, p);
-        n += 1;
-        sum += z as usize;
-        p += z;
-    }
-    Seen {
-        ok: true,
-        count: n,
-        sum,
-    }
-}
-
-// A block of size z at p, in a run of large blocks that ends at e.
-fn fits_large(z: u32, e: u32, p: u32) -> bool
-    ensures { result ≡ pass (fit_size z 0 e p) }
-{
-    if z < LARGE {
+    if !K::has(z) {
         return false;
     }
     if z % 8 != 0 {
@@ -126,24 +136,9 @@ fn fits_large(z: u32, e: u32, p: u32) -> bool
     p as u64 + z as u64 <= e as u64
 }
 
-// A block of size z at p, in a run of small blocks that ends at e.
-fn fits_small(z: u32, e: u32, p: u32) -> bool
-    ensures { result ≡ pass (fit_size z 1 e p) }
-{
-    if z < 8 {
-        return false;
-    }
-    if LARGE <= z {
-        return false;
-    }
-    if z % 8 != 0 {
-        return false;
-    }
-    p as u64 + z as u64 <= e as u64
-}
-
-// The head w at p of a block that is not held, where the flags `due` were: a large one repeats its head at its end.
-fn free_ok(pool: &[u8], w: u32, due: u32, p: u32) -> bool
+// The head w at p of a block that is not held, where the flags `due` were.
+fn free_ok<K: Kind>(pool: &[u8], w: u32, due: u32, p: u32) -> bool
+    requires { small (size_of w) ≡ K.kind }
     ensures { result ≡ pass (free_at pool.now w due p) }
 {
     if due != HELD {
@@ -152,9 +147,5 @@ fn free_ok(pool: &[u8], w: u32, due: u32, p: u32) -> bool
     if heads::flags_of(w) != FREE {
         return false;
     }
-    let z = heads::size_of(w);
-    if z < LARGE {
-        return true;
-    }
-    words::field(pool, p, z - 4) == w
+    K::ends(pool, w, p)
 }

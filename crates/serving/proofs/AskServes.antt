@@ -10,10 +10,7 @@ use Rattle.paper.proofs.reads.Stands.{Stands}
 use Rattle.paper.proofs.runs.HeldPlaces.{held_at}
 use Rattle.paper.proofs.runs.HeldWalk.{held-within}
 use Rattle.paper.proofs.runs.LookedUp.{by-held}
-use Rattle.paper.specs.Answers.{not_held}
 use Rattle.paper.specs.Blocks.{State}
-use Rattle.paper.specs.declared.Answer.{Answer}
-use Rattle.paper.specs.declared.Answer.TheVariants.{Done, Refused}
 use Rattle.paper.specs.declared.Found.{Found}
 use Rattle.paper.specs.declared.Found.TheVariants.{Held, Free, Remainder, Nothing}
 use Rattle.paper.specs.GivingBack as paper
@@ -22,9 +19,13 @@ use Rattle.walk.proofs.LookUpRead.{look-up-read}
 use Rattle.walk.specs.LookUp as walk
 use Rattle.serving.specs.Models.{held_there, by_answer}
 use Rattle.serving.specs.Models as model
+use Rattle.std.specs.declared.result.Result.TheVariants.{Ok, Err}
+use Rattle.paper.specs.declared.Refusal.TheVariants.{NotHeld}
+use Rattle.paper.specs.Answers.{Answer}
+use Rattle.paper.specs.declared.Refusal.{Refusal}
 
 -- what is done by the size that is held there, is done by the block that was found
-by-found : {A : Type 0} (x : Found) (offset : ℕ) (f g : ℕ → A) → by_answer (held_there x offset) f g ≡ by_offset x offset f (λ q z. g z)
+by-found : {A : Type 0} (x : Found) (offset : ℕ) (f : Refusal → A) (g : ℕ → A) → by_answer (held_there x offset) f g ≡ by_offset x offset f (λ q z. g z)
 unfolding held_there
 by-found (Held q z) offset f g =
     by= offset (q + 4)
@@ -36,8 +37,8 @@ by-found Nothing offset f g = refl
 
 module _ (s : State) (bs : List ℕ) (S : Stands s bs) (offset : ℕ) where
   -- looked up in the bytes, in the words of what is held there
-  pub looked-up : {A : Type 0} (f g : ℕ → A)
-      → by_answer (held_there (walk.look_up bs offset) offset) f g ≡ if= (held_at s offset) 0 (f not_held) (g (held_at s offset))
+  pub looked-up : {A : Type 0} (f : Refusal → A) (g : ℕ → A)
+      → by_answer (held_there (walk.look_up bs offset) offset) f g ≡ if= (held_at s offset) 0 (f NotHeld) (g (held_at s offset))
   looked-up f g =
       ap (λ (x : Found). by_answer (held_there x offset) f g) (look-up-read s bs S offset) ∙ by-found (look_up s offset) offset f g
       ∙ by-held offset f (λ q z. g z) s S.well_formed.sized
@@ -48,8 +49,8 @@ module _ (s : State) (bs : List ℕ) (S : Stands s bs) (offset : ℕ) where
   pub ask-serves : model.ask bs offset ≡ paper.ask s offset
   unfolding model.ask paper.ask
   ask-serves =
-      looked-up Refused (λ z. Done (minus z 4))
+      looked-up Err (λ z. Ok (minus z 4))
       ∙ by= (held_at s offset) 0
       (λ e. if=-yes (held_at s offset) 0 _ _ e ∙ sym (if=-yes (held_at s offset) 0 _ _ e))
-      (λ n. if=-no (held_at s offset) 0 _ _ n ∙ ap Done (size-less-four n) ∙ sym (if=-no (held_at s offset) 0 _ _ n))
-      ∙ sym (by-held offset Refused (λ q z. Done (z - 4)) s S.well_formed.sized)
+      (λ n. if=-no (held_at s offset) 0 _ _ n ∙ ap Ok (size-less-four n) ∙ sym (if=-no (held_at s offset) 0 _ _ n))
+      ∙ sym (by-held offset Err (λ q z. Ok (z - 4)) s S.well_formed.sized)

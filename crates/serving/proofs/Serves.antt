@@ -2,13 +2,13 @@
 use mathlib.Core.Path.{◌≡◌, ap, subst, sym}
 use mathlib.Core.List.{List}
 use Prim.Native.Nat.{ℕ}
-use Rattle.paper.specs.Answers.{Out}
 use Rattle.paper.specs.Blocks.{State}
 use Rattle.paper.specs.Calls.{leaves}
 use Rattle.paper.specs.Granting.{Result}
 use Rattle.paper.proofs.keeps.Kept.{Kept}
 use Rattle.paper.proofs.keeps.KeptStands.{kept-stands}
 use Rattle.paper.proofs.reads.Stands.{Stands}
+use Rattle.paper.specs.Answers.{Out}
 
 pub record Serves (o : Out) (r : Result) (bs : List ℕ) : Type 0 where
   pub by-paper : o ≡ leaves r bs

@@ -3,10 +3,7 @@
 use Rattle.std.specs.Prelude.{List, ℕ, length}
 use Rattle.words.specs.Choice.{if=}
 use Rattle.words.specs.Sums.{minus}
-use Rattle.paper.specs.declared.Answer.{Answer}
-use Rattle.paper.specs.declared.Answer.TheVariants.{Done, Refused}
 use Rattle.paper.specs.declared.Found.{Found}
-use Rattle.paper.specs.Answers.{Out, out, list_length}
 use Rattle.paper.specs.Calls.{unchanged}
 use Rattle.paper.specs.LookingUp.{by_offset}
 use Rattle.giveback.specs.GiveBack as giveback
@@ -16,26 +13,30 @@ unfoldable pub use Rattle.asking.specs.AllHeld.{all_held}
 unfoldable pub use Rattle.grant.specs.Take.{take}
 unfoldable pub use Rattle.walk.specs.Tallies.{tally as figures}
 unfoldable pub use Rattle.laying.specs.LayingOut.{lay_out}
+use Rattle.std.specs.declared.result.Result.TheVariants.{Ok, Err}
+use Rattle.paper.specs.declared.Refusal.TheVariants.{ListLength}
+use Rattle.paper.specs.Answers.{Answer, out, Out}
+use Rattle.paper.specs.declared.Refusal.{Refusal}
 
 -- the size of the held block whose payload starts at the offset, by the block that the offset is in; or the refusal
 unfoldable pub held_there : Found → ℕ → Answer
-held_there x offset = by_offset x offset Refused (λ q z. Done z)
+held_there x offset = by_offset x offset Err (λ q z. Ok z)
 
 module _ {A : Type 0} where
-  abbrev pub by_answer : Answer → (refused : ℕ → A) → (done : ℕ → A) → A
-  by_answer (Done z) refused done = done z
-  by_answer (Refused k) refused done = refused k
+  abbrev pub by_answer : Answer → (refused : Refusal → A) → (done : ℕ → A) → A
+  by_answer (Ok z) refused done = done z
+  by_answer (Err k) refused done = refused k
 
 unfoldable pub give_back : List ℕ → ℕ → Out
 give_back bs offset =
     by_answer (held_there (walk.look_up bs offset) offset)
     (unchanged bs)
-    (λ z. out (Done (minus z 4)) (giveback.give_back bs (minus offset 4) z))
+    (λ z. out (Ok (minus z 4)) (giveback.give_back bs (minus offset 4) z))
 
 unfoldable pub ask : List ℕ → ℕ → Answer
-ask bs offset = by_answer (held_there (walk.look_up bs offset) offset) Refused (λ z. Done (minus z 4))
+ask bs offset = by_answer (held_there (walk.look_up bs offset) offset) Err (λ z. Ok (minus z 4))
 
 -- what is answered, and the counters afterwards
 unfoldable pub class_count : List ℕ → List ℕ → Out
 class_count bs cs =
-    if= (length cs) 53 (out (Done (class_counts bs cs).held) (class_counts bs cs).each) (unchanged cs list_length)
+    if= (length cs) 53 (out (Ok (class_counts bs cs).held) (class_counts bs cs).each) (unchanged cs ListLength)

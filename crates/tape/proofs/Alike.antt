@@ -15,16 +15,16 @@ use Rattle.paper.proofs.keeps.AnyLayout.{figures-any, give-back-any, give-back-t
 use Rattle.paper.proofs.reads.Standing.{stands-sound}
 use Rattle.paper.specs.declared.Figures.{Figures as FiguresOf}
 use Rattle.paper.specs.Allowed.{allowed}
-use Rattle.paper.specs.Answers.{seven_of, unreadable}
+use Rattle.paper.specs.Answers.{code, seven_of}
+use Rattle.paper.specs.declared.Refusal.TheVariants.{Unreadable}
 use Rattle.paper.specs.Blocks.{State, with_top}
 use Rattle.paper.specs.Fresh.{fresh}
 use Rattle.paper.specs.Granting.{Result, take as take_of}
 use Rattle.paper.specs.GivingBack.{give_back as give_back_of}
 use Rattle.records.proofs.Alike.{Alike, other_record, turned-alike, turned-long}
-use Rattle.records.specs.Records.{read_at}
+use Rattle.records.specs.Records.{Record, whole, read_at}
 use Rattle.records.specs.Turned.{other, turned}
-use Rattle.records.specs.declared.request.Record.{Record}
-use Rattle.records.specs.declared.request.Record.TheVariants.{Whole, Unreadable}
+use Rattle.std.specs.Prelude.{None, Some}
 use Rattle.records.specs.declared.request.Request.{Request}
 use Rattle.records.specs.declared.request.Request.TheVariants.{LayOut, LayOutIndexed, Take, GiveBack, Figures}
 use Rattle.lines.specs.Lines.{answered, letter_of}
@@ -121,17 +121,17 @@ states-mirrored room (suc left) tape tape' l at a m T =
     (λ h. if<-no at (length tape') _ _ (omega arith) ∙ ap mirrored_states (sym (if<-no at (length tape) _ _ h)))
   where
     go : StatesAlike room left tape tape' → (x : Record) → read_at tape at ≡ x → read_at tape' at ≡ other_record (read_at tape at)
-        → ((request : Request) (next : ℕ) → read_at tape at ≡ Whole request next → Alike left tape tape' next)
+        → ((request : Request) (next : ℕ) → read_at tape at ≡ whole request next → Alike left tape tape' next)
         → states_of (read_at tape' at)
         (λ request next.
         then_states (line (letter_of request) (serve_state room (mirrored m) request).numbers) (states_from room left tape' next (serve_state room (mirrored m) request).after))
-        (states (line 88 (unreadable ∷ 0 ∷ []) ∷ []) (mirrored m))
+        (states (line 88 (code Unreadable ∷ 0 ∷ []) ∷ []) (mirrored m))
         ≡ mirrored_states (states_of (read_at tape at)
         (λ request next.
         then_states (line (letter_of request) (serve_state room m request).numbers) (states_from room left tape next (serve_state room m request).after))
-        (states (line 88 (unreadable ∷ 0 ∷ []) ∷ []) m))
-    go on Unreadable e f g = rw (f, e)
-    go on (Whole request next) e f g =
+        (states (line 88 (code Unreadable ∷ 0 ∷ []) ∷ []) m))
+    go on None e f g = rw (f, e)
+    go on (Some (request, next)) e f g =
         let k = serve-mirrored room m T request in
         let r = on next (g request next e) (serve_state room m request).after k.1 in
         rw (f, e)
@@ -174,7 +174,7 @@ alike tape buffer buffer' h h' l =
     let b : run_of (turned tape) buffer' ≡ run (x_line 0) (pool 0 buffer') = if<-yes longest (length (turned tape)) _ _ (omega (arith, long)) in
     record {
       nth = 0;
-      lines = line 88 (unreadable ∷ 0 ∷ []) ∷ [];
+      lines = line 88 (code Unreadable ∷ 0 ∷ []) ∷ [];
       prints = ap (λ (r : Run). r.text) a ∙ sym (append-nil (x_line 0));
       prints' = ap (λ (r : Run). r.text) b ∙ sym (append-nil (x_line 0));
       same_size = ap (λ (r : Run). r.last.n) b ∙ sym (ap (λ (r : Run). r.last.n) a);

@@ -5,14 +5,18 @@ use Prim.Native.Nat.{ℕ, zero, suc, ◌+◌, ◌*◌, ◌≤◌, ◌<◌}
 use native.Mathlib.Omega.{arith}
 use lib.ListN.{length, length-append}
 use Rattle.words.specs.Choice.{if<-yes, if<-no}
+use Rattle.std.specs.Prelude.{None}
+use Rattle.text.specs.declared.Page.{Page as Lent}
+use Rattle.text.specs.Lent.{shown}
 use Rattle.text.specs.Page.{Page, page, put}
-use Rattle.text.proofs.Page.{put-append, put-length, put_front}
+use Rattle.text.proofs.Putting.{put-append, put_front}
 use Rattle.records.specs.declared.request.Request.{Request}
-use Rattle.records.specs.declared.request.Record.{Record}
-use Rattle.records.specs.declared.request.Record.TheVariants.{Whole, Unreadable}
-use Rattle.records.specs.Records.{read_at}
+use Rattle.records.specs.Records.{Record, whole, read_at}
 use Rattle.records.proofs.Records.{Onward, onward}
-use Rattle.lines.specs.Lines.{line_of, Printed, letter_of}
+use Rattle.lines.specs.Lines.{line_of, letter_of}
+use Rattle.lines.specs.Printed.{Printed}
+use Rattle.tape.specs.declared.calls.RunPool.{RunPool}
+use Rattle.tape.specs.Called.{held}
 use Rattle.tape.specs.Serve.{Pool, pool, serve}
 use Rattle.tape.specs.Step.{Stepped}
 use Rattle.tape.specs.Run.{Run, run, then, x_line, longest, run_from, run_of, left, leaves}
@@ -28,14 +32,14 @@ unfolding run_from
 run_ends zero tape at nth p h = refl
 run_ends (suc k) tape at nth p h = if<-no _ _ _ _ h
 
-run-stops : (k : ℕ) (tape : List ℕ) (at nth : ℕ) (p : Pool) → at < length tape → length tape ≤ at + k → read_at tape at ≡ Unreadable
+run-stops : (k : ℕ) (tape : List ℕ) (at nth : ℕ) (p : Pool) → at < length tape → length tape ≤ at + k → read_at tape at ≡ None
     → run_from k tape at nth p ≡ run (x_line nth) p
 unfolding run_from
 run-stops zero tape at nth p h f e = absurd (omega arith)
 run-stops (suc k) tape at nth p h f e = if<-yes _ _ _ _ h ∙ rw e
 
 run-serves : (k : ℕ) (tape : List ℕ) (at nth : ℕ) (p : Pool) {request : Request} {next : ℕ} → at < length tape
-    → read_at tape at ≡ Whole request next
+    → read_at tape at ≡ whole request next
     → run_from (suc k) tape at nth p
     ≡ then (line_of nth (letter_of request) (serve p request).numbers) (run_from k tape next (nth + 1) (serve p request).after)
 unfolding run_from
@@ -47,25 +51,24 @@ then-then t u r = ap (λ (l : List ℕ). run l r.last) (sym (append_assoc t u r.
 -- ---- the end
 
 -- lines that fit, put at the start of `out`, are what a run leaves
-all-put : (text out₀ : List ℕ) (n place : ℕ) (buffer out : List ℕ) → length text ≤ length out₀
-    → put (page 0 out₀) text ≡ page place out
-    → leaves (run text (pool n buffer)) out₀ ≡ left place buffer out
+all-put : (text out₀ : List ℕ) (p : Pool) (q : Page) → length text ≤ length out₀ → put (page 0 out₀) text ≡ q
+    → leaves (run text p) out₀ ≡ left q.place p.buffer q.bytes
 unfolding leaves
-all-put text out₀ n place buffer out h e =
-    ap (λ (p : Page). left p.place buffer p.bytes) (sym (put_front text out₀ h) ∙ e)
+all-put text out₀ p q h e = ap (λ (q : Page). left q.place p.buffer q.bytes) (sym (put_front text out₀ h) ∙ e)
 
 -- a tape that is too long
-pub too_long : (tape buffer out₀ : List ℕ) {place : ℕ} {out : List ℕ} → longest < length tape → length out₀ ≡ room
-    → Printed 0 out₀ (x_line 0) place out
-    → leaves (run_of tape buffer) out₀ ≡ left place buffer out
+pub too_long : (tape buffer : List ℕ) (before after : Lent) → longest < length tape → length before.out.now ≡ room → before.at ≡ 0
+    → Printed before (x_line 0) after
+    → leaves (run_of tape buffer) before.out.now ≡ left after.at buffer after.out.now
 unfolding run_of
-too_long tape buffer out₀ {place} {out} h r p =
-    ap (λ (r : Run). leaves r out₀) (if<-yes longest (length tape) _ _ h)
-    ∙ all-put (x_line 0) out₀ 0 place buffer out (omega (arith, p.short)) p.same
+too_long tape buffer before after h r z p =
+    ap (λ (r : Run). leaves r before.out.now) (if<-yes longest (length tape) _ _ h)
+    ∙ all-put (x_line 0) before.out.now (pool 0 buffer) (shown after) (omega (arith, p.short))
+    (ap (λ (k : ℕ). put (page k before.out.now) (x_line 0)) (sym z) ∙ p.same.shows)
 
 -- ---- the loop
 
-pub record Going (tape buffer₀ out₀ buffer out : List ℕ) (at nth n place : ℕ) : Type 0 where
+pub record Going (tape buffer₀ out₀ : List ℕ) (now : RunPool) (lines : Lent) (at nth : ℕ) : Type 0 where
   pub few : length tape ≤ longest
   pub inside : at ≤ length tape
   pub counted : nth ≤ at + 1
@@ -74,12 +77,13 @@ pub record Going (tape buffer₀ out₀ buffer out : List ℕ) (at nth n place :
   pub text : List ℕ
   pub short : length text ≤ 96 * at
   pub fits : length text ≤ length out₀
-  pub same : run_of tape buffer₀ ≡ then text (run_from left tape at nth (pool n buffer))
-  pub lines : put (page 0 out₀) text ≡ page place out
+  pub same : run_of tape buffer₀ ≡ then text (run_from left tape at nth (held now))
+  pub printed : put (page 0 out₀) text ≡ shown lines
 
-pub start : (tape buffer out : List ℕ) → length tape ≤ longest → Going tape buffer out buffer out 0 1 0 0
+pub start : (tape : List ℕ) (now : RunPool) (lines : Lent) → length tape ≤ longest → now.n ≡ 0 → lines.at ≡ 0
+    → Going tape now.buffer.now lines.out.now now lines 0 1
 unfolding run_of put
-start tape buffer out h =
+start tape now lines h e f =
     record {
       few = h;
       inside = omega arith;
@@ -89,51 +93,48 @@ start tape buffer out h =
       text = [];
       short = omega arith;
       fits = omega arith;
-      same = if<-no longest (length tape) _ _ h;
-      lines = refl;
+      same =
+          if<-no longest (length tape) _ _ h ∙ ap (λ (k : ℕ). run_from (length tape) tape 0 1 (pool k now.buffer.now)) (sym e);
+      printed = ap (λ (k : ℕ). page k lines.out.now) (sym f);
     }
 
-module _ {tape buffer₀ out₀ buffer out : List ℕ} {at nth n place : ℕ} (g : Going tape buffer₀ out₀ buffer out at nth n place) where
-  -- the text so far is on a page as long as `out` is
-  same-room : length out ≡ length out₀
-  same-room = sym (ap (λ (q : Page). length q.bytes) g.lines) ∙ put-length (page 0 out₀) g.text
+module _ {tape buffer₀ out₀ : List ℕ} {now : RunPool} {lines : Lent} {at nth : ℕ} (g : Going tape buffer₀ out₀ now lines at nth) where
+  -- there is room for one more line
+  more_room : (line : List ℕ) → at < length tape → length out₀ ≡ room → length line ≤ 96 → length (g.text ++ line) ≤ length out₀
+  more_room line h r l = rw length-append (omega (arith, g.short, g.few))
 
-  -- so there is room for one more line
-  more_room : (line : List ℕ) → at < length tape → length out ≡ room → length line ≤ 96 → length (g.text ++ line) ≤ length out₀
-  more_room line h r l = rw length-append (omega (arith, same-room, g.short, g.few))
-
-  pub ends : length tape ≤ at → leaves (run_of tape buffer₀) out₀ ≡ left place buffer out
+  pub ends : length tape ≤ at → leaves (run_of tape buffer₀) out₀ ≡ left lines.at now.buffer.now lines.out.now
   ends h =
       ap (λ (r : Run). leaves r out₀)
-      (g.same ∙ ap (then g.text) (run_ends g.left tape at nth (pool n buffer) h) ∙ ap (λ (l : List ℕ). run l (pool n buffer)) (append-nil g.text))
-      ∙ all-put g.text out₀ n place buffer out g.fits g.lines
+      (g.same ∙ ap (then g.text) (run_ends g.left tape at nth (held now) h) ∙ ap (λ (l : List ℕ). run l (held now)) (append-nil g.text))
+      ∙ all-put g.text out₀ (held now) (shown lines) g.fits g.printed
 
-  pub stops : {r : Record} {next : ℕ} {after : List ℕ} → at < length tape → length out ≡ room → r ≡ read_at tape at → r ≡ Unreadable
-      → Printed place out (x_line nth) next after
-      → leaves (run_of tape buffer₀) out₀ ≡ left next buffer after
-  stops {next = next} {after} h w e f p =
+  pub stops : {r : Record} {after : Lent} → at < length tape → length out₀ ≡ room → r ≡ read_at tape at → r ≡ None
+      → Printed lines (x_line nth) after
+      → leaves (run_of tape buffer₀) out₀ ≡ left after.at now.buffer.now after.out.now
+  stops {after = after} h w e f p =
       ap (λ (r : Run). leaves r out₀)
-      (g.same ∙ ap (then g.text) (run-stops g.left tape at nth (pool n buffer) h g.enough (sym e ∙ f)))
-      ∙ all-put (g.text ++ x_line nth) out₀ n next buffer after (more_room (x_line nth) h w p.short)
-      (put-append (page 0 out₀) g.text (x_line nth) ∙ ap (λ (q : Page). put q (x_line nth)) g.lines ∙ p.same)
+      (g.same ∙ ap (then g.text) (run-stops g.left tape at nth (held now) h g.enough (sym e ∙ f)))
+      ∙ all-put (g.text ++ x_line nth) out₀ (held now) (shown after) (more_room (x_line nth) h w p.short)
+      (put-append (page 0 out₀) g.text (x_line nth) ∙ ap (λ (q : Page). put q (x_line nth)) g.printed ∙ p.same.shows)
 
-  pub goes_on : {r : Record} {request : Request} {next : ℕ} {m : ℕ} {after : List ℕ} {place' : ℕ} {out' : List ℕ}
+  pub goes_on : {r : Record} {request : Request} {next : ℕ} {after : RunPool} {lines' : Lent}
       → at < length tape
-      → length out ≡ room
+      → length out₀ ≡ room
       → r ≡ read_at tape at
-      → r ≡ Whole request next
-      → Stepped (pool n buffer) request nth place out m after place' out'
-      → Going tape buffer₀ out₀ after out' next (nth + 1) m place'
-  goes_on {r} {request} {next} {m} {after} {place'} {out'} h w e f s = go g.left g.enough g.same
+      → r ≡ whole request next
+      → Stepped now request nth lines after lines'
+      → Going tape buffer₀ out₀ after lines' next (nth + 1)
+  goes_on {r} {request} {next} {after} {lines'} h w e f s = go g.left g.enough g.same
     where
       line : List ℕ
-      line = line_of nth (letter_of request) (serve (pool n buffer) request).numbers
+      line = line_of nth (letter_of request) (serve (held now) request).numbers
 
       on : Onward tape at request next
       on = onward tape at (sym e ∙ f)
 
-      go : (k : ℕ) → length tape ≤ at + k → run_of tape buffer₀ ≡ then g.text (run_from k tape at nth (pool n buffer))
-          → Going tape buffer₀ out₀ after out' next (nth + 1) m place'
+      go : (k : ℕ) → length tape ≤ at + k → run_of tape buffer₀ ≡ then g.text (run_from k tape at nth (held now))
+          → Going tape buffer₀ out₀ after lines' next (nth + 1)
       go zero en q = absurd (omega arith)
       go (suc k) en q =
           record {
@@ -146,8 +147,8 @@ module _ {tape buffer₀ out₀ buffer out : List ℕ} {at nth n place : ℕ} (g
             short = rw length-append (omega (arith, g.short, s.printed.short, on.past-this));
             fits = more_room line h w s.printed.short;
             same =
-                q ∙ ap (then g.text) (run-serves k tape at nth (pool n buffer) h (sym e ∙ f)) ∙ then-then g.text line _
+                q ∙ ap (then g.text) (run-serves k tape at nth (held now) h (sym e ∙ f)) ∙ then-then g.text line _
                 ∙ ap (λ (p : Pool). then (g.text ++ line) (run_from k tape next (nth + 1) p)) s.kept;
-            lines =
-                put-append (page 0 out₀) g.text line ∙ ap (λ (q : Page). put q line) g.lines ∙ s.printed.same;
+            printed =
+                put-append (page 0 out₀) g.text line ∙ ap (λ (q : Page). put q line) g.printed ∙ s.printed.same.shows;
           }

@@ -11,10 +11,7 @@ use lib.ListN.{get_or-append, get_or-eq_default, get_or, length, take as first_o
 use lib.Seq.{get_or-append-add, get_or-drop, get_or-take, length-take-le, take_at}
 use Rattle.words.specs.Choice.{if<, if<-yes, if<-no, if=, if=-no, when-yes, when-no, by<}
 use Rattle.words.specs.Words.{Bytes}
-use Rattle.paper.specs.declared.Answer.TheVariants.{Done, Refused}
-use Rattle.paper.specs.declared.Tally.{Tally}
 use Rattle.paper.specs.Allowed.{Allowed, allowed}
-use Rattle.paper.specs.Answers.{Out, out, not_allowed, seven_of, unreadable}
 use Rattle.paper.specs.Blocks.{State}
 use Rattle.paper.specs.Calls.{Reading, Reads, misfit, sound, lay_out_call, take_call, give_back_call, figures_call, leaves, laying_out as laid_out_call}
 use Rattle.paper.specs.Counting.{figures as figures_of}
@@ -39,14 +36,17 @@ use Rattle.reading.specs.Read.{read}
 use Rattle.reading.proofs.Readings.{reads, reading-unique}
 use Rattle.records.specs.declared.request.Request.{Request}
 use Rattle.records.specs.declared.request.Request.TheVariants.{LayOut, LayOutIndexed, Take, GiveBack, Figures}
-use Rattle.records.specs.declared.request.Record.{Record}
-use Rattle.records.specs.declared.request.Record.TheVariants.{Whole, Unreadable}
-use Rattle.records.specs.Records.{read_at}
+use Rattle.std.specs.Prelude.{None, Some}
+use Rattle.records.specs.Records.{Record, read_at}
 use Rattle.lines.specs.Lines.{line_of, answered, tallied, letter_of}
 use Rattle.tape.specs.Alike.{Line, line, printed}
 use Rattle.tape.specs.Run.{Run, by_record, longest, run, run_from, run_of, then, x_line}
 use Rattle.tape.proofs.First.{in-the-buffer, past-the-buffer}
 use Rattle.tape.specs.Serve.{Pool, Outcome, answers, figures_first, laying_out, on_first, pool, serve}
+use Rattle.std.specs.declared.result.Result.TheVariants.{Ok, Err}
+use Rattle.paper.specs.declared.Refusal.TheVariants.{NotAllowed, Unreadable}
+use Rattle.paper.specs.declared.Refusal.{Refusal}
+use Rattle.paper.specs.Answers.{code, out, Out, seven_of, Tally}
 
 -- ---- a run over states, in a buffer of `room` bytes
 
@@ -58,25 +58,25 @@ pub record Step : Type 0 where
 abbrev pub result : Result → Step
 result r = record { after = some r.state; numbers = answered r.answer }
 
-abbrev refused_by : ℕ → Option State → Step
-refused_by k m = record { after = m; numbers = k ∷ 0 ∷ [] }
+abbrev refused_by : Refusal → Option State → Step
+refused_by k m = record { after = m; numbers = code k ∷ 0 ∷ [] }
 
 -- with an index t high
 abbrev pub lay_state : ℕ → Bool → ℕ → Option State → Step
 lay_state t true new m = record { after = some (fresh t new); numbers = 0 ∷ new ∷ [] }
-lay_state t false new m = refused_by not_allowed m
+lay_state t false new m = refused_by NotAllowed m
 
 unfoldable pub laid_state : ℕ → ℕ → ℕ → Option State → Step
-laid_state room t new m = if< room new (refused_by not_allowed m) (lay_state t (allowed new) new m)
+laid_state room t new m = if< room new (refused_by NotAllowed m) (lay_state t (allowed new) new m)
 
 unfoldable pub serve_state : ℕ → Option State → Request → Step
 serve_state room m (LayOut new) = laid_state room 1 new m
 serve_state room m (LayOutIndexed new) = laid_state room 13 new m
-serve_state room none (Take size) = refused_by not_allowed none
+serve_state room none (Take size) = refused_by NotAllowed none
 serve_state room (some s) (Take size) = result (take_of s size)
-serve_state room none (GiveBack offset) = refused_by not_allowed none
+serve_state room none (GiveBack offset) = refused_by NotAllowed none
 serve_state room (some s) (GiveBack offset) = result (give_back_of s offset)
-serve_state room none Figures = refused_by not_allowed none
+serve_state room none Figures = refused_by NotAllowed none
 serve_state room (some s) Figures = record { after = some s; numbers = 0 ∷ seven_of (figures_of s) }
 
 -- the lines, and what the pool stands for in the end
@@ -88,8 +88,8 @@ abbrev pub states : List Line → Option State → States
 states lines last = record { lines = lines; last = last }
 
 abbrev pub states_of : Record → (Request → ℕ → States) → States → States
-states_of (Whole request next) served stopped = served request next
-states_of Unreadable served stopped = stopped
+states_of (Some (request, next)) served stopped = served request next
+states_of None served stopped = stopped
 
 -- a line, and what comes after it
 abbrev pub then_states : Line → States → States
@@ -102,7 +102,7 @@ states_from room (suc left) tape at m =
     (states_of (read_at tape at)
     (λ request next.
     then_states (line (letter_of request) (serve_state room m request).numbers) (states_from room left tape next (serve_state room m request).after))
-    (states (line 88 (unreadable ∷ 0 ∷ []) ∷ []) m))
+    (states (line 88 (code Unreadable ∷ 0 ∷ []) ∷ []) m))
     (states [] m)
 
 -- ---- the pool of a run stands for what the run over states has
@@ -170,8 +170,8 @@ module _ (room : ℕ) (p : Pool) where
 
   -- ---- of an empty pool
 
-  refused-empty : (call : List ℕ → Out) → p.n ≡ 0 → call [] ≡ out (Refused not_allowed) []
-      → on_first call p.n p.buffer ≡ out (Refused not_allowed) p.buffer
+  refused-empty : (call : List ℕ → Out) → p.n ≡ 0 → call [] ≡ out (Err NotAllowed) []
+      → on_first call p.n p.buffer ≡ out (Err NotAllowed) p.buffer
   refused-empty call e f = ap (λ (k : ℕ). on_first call k p.buffer) e ∙ in-the-buffer call 0 p.buffer (omega arith) f
 
   -- ---- of a pool that stands for s
@@ -210,10 +210,10 @@ module _ (room : ℕ) (p : Pool) (m : Option State) (S : StandsFor room p m) (la
   lay s = lay_out s layout
 
   -- "A refused L keeps the old pool."
-  lay-out-refused : on_first lay new p.buffer ≡ out (Refused not_allowed) p.buffer → laid_state room t new m ≡ refused_by not_allowed m
+  lay-out-refused : on_first lay new p.buffer ≡ out (Err NotAllowed) p.buffer → laid_state room t new m ≡ refused_by NotAllowed m
       → Agrees room p m request
   lay-out-refused e f =
-      agrees-by room p m request (answers p.n (out (Refused not_allowed) p.buffer)) (refused_by not_allowed m)
+      agrees-by room p m request (answers p.n (out (Err NotAllowed) p.buffer)) (refused_by NotAllowed m)
       (served ∙ ap (laying_out new p.n) e) (stated ∙ f) refl S
 
   some-top : (t ≡ 1) ⊎ (t ≡ 13) → layout_top layout ≢ 0
@@ -232,18 +232,18 @@ module _ (room : ℕ) (p : Pool) (m : Option State) (S : StandsFor room p m) (la
           let k : length (first_of new p.buffer) ≡ new = length-take-le new p.buffer l in
           lay-out-refused
           (in-the-buffer lay new p.buffer l (when-no (allowed (length (first_of new p.buffer))) _ _ (ap allowed k ∙ e))
-          ∙ ap (out (Refused not_allowed)) (take-append-drop new p.buffer))
+          ∙ ap (out (Err NotAllowed)) (take-append-drop new p.buffer))
           (f ∙ ap (λ (b : Bool). lay_state t b new m) e)
       go true e l f =
           let bs : List ℕ = first_of new p.buffer in
           let k : length bs ≡ new = length-take-le new p.buffer l in
           let a : Allowed new = allowed-inv new e in
-          let g : lay bs ≡ out (Done new) (write (sheet (fresh t new)) bs) =
+          let g : lay bs ≡ out (Ok new) (write (sheet (fresh t new)) bs) =
           when-yes (allowed (length bs)) _ _ (ap allowed k ∙ e) ∙ if=-no (layout_top layout) 0 _ _ (some-top tops)
-          ∙ ap (λ (u : ℕ). out (Done (length bs)) (write (sheet (fresh u (length bs))) bs)) is-t
-          ∙ ap (λ (j : ℕ). out (Done j) (write (sheet (fresh t j)) bs)) k in
+          ∙ ap (λ (u : ℕ). out (Ok (length bs)) (write (sheet (fresh u (length bs))) bs)) is-t
+          ∙ ap (λ (j : ℕ). out (Ok j) (write (sheet (fresh t j)) bs)) k in
           agrees-by room p m request
-          (answers new (out (Done new) (write (sheet (fresh t new)) bs ++ drop new p.buffer))) (lay_state t true new m)
+          (answers new (out (Ok new) (write (sheet (fresh t new)) bs ++ drop new p.buffer))) (lay_state t true new m)
           (served ∙ ap (laying_out new p.n) (in-the-buffer lay new p.buffer l g)) (stated ∙ f ∙ ap (λ (b : Bool). lay_state t b new m) e) refl
           (written-for room new p.buffer (fresh t new) S.bytes S.long l
           (write-stands (fresh t new) (fresh-well-formed t new a tops) (fresh-edge t new) bs (fresh-ends t new a ∙ sym k)))
@@ -253,20 +253,20 @@ module _ (room : ℕ) (p : Pool) (S : StandsFor room p none) where
   take_none : (size : ℕ) → Agrees room p none (Take size)
   unfolding serve serve_state take
   take_none size =
-      agrees-by room p none (Take size) (answers p.n (out (Refused not_allowed) p.buffer)) (refused_by not_allowed none)
+      agrees-by room p none (Take size) (answers p.n (out (Err NotAllowed) p.buffer)) (refused_by NotAllowed none)
       (ap (answers p.n) (refused-empty room p (λ b. take b size) S.for (ap (λ (x : Reading). take_call x [] size) empty-reads))) refl refl S
 
   give-back-none : (offset : ℕ) → Agrees room p none (GiveBack offset)
   unfolding serve serve_state give_back
   give-back-none offset =
-      agrees-by room p none (GiveBack offset) (answers p.n (out (Refused not_allowed) p.buffer)) (refused_by not_allowed none)
+      agrees-by room p none (GiveBack offset) (answers p.n (out (Err NotAllowed) p.buffer)) (refused_by NotAllowed none)
       (ap (answers p.n) (refused-empty room p (λ b. give_back b offset) S.for (ap (λ (x : Reading). give_back_call x [] offset) empty-reads)))
       refl refl S
 
   figures-none : Agrees room p none Figures
   unfolding serve serve_state figures figures_first
   figures-none =
-      agrees-by room p none Figures (record { after = p; numbers = not_allowed ∷ 0 ∷ [] }) (refused_by not_allowed none)
+      agrees-by room p none Figures (record { after = p; numbers = code NotAllowed ∷ 0 ∷ [] }) (refused_by NotAllowed none)
       (ap (λ (t : Tally). record { after = p; numbers = tallied t })
       (ap (λ (k : ℕ). figures_first k p.buffer) S.for ∙ if<-no (length p.buffer) 0 _ _ (omega arith) ∙ ap figures_call empty-reads))
       refl refl S
@@ -337,10 +337,10 @@ record-agrees : (room left : ℕ) (tape : List ℕ) (nth : ℕ) (p : Pool) (m : 
     (states_of x
     (λ request next.
     then_states (line (letter_of request) (serve_state room m request).numbers) (states_from room left tape next (serve_state room m request).after))
-    (states (line 88 (unreadable ∷ 0 ∷ []) ∷ []) m))
+    (states (line 88 (code Unreadable ∷ 0 ∷ []) ∷ []) m))
 unfolding printed
-record-agrees room left tape nth p m S on Unreadable = record { same = sym (append-nil (x_line nth)); stands = S }
-record-agrees room left tape nth p m S on (Whole request next) =
+record-agrees room left tape nth p m S on None = record { same = sym (append-nil (x_line nth)); stands = S }
+record-agrees room left tape nth p m S on (Some (request, next)) =
     let g = agrees room p m S request in
     let r = on next (nth + 1) (serve p request).after (serve_state room m request).after g.kept in
     record { same = ap₂ (λ (a b : List ℕ). a ++ b) (ap (line_of nth (letter_of request)) g.same) r.same; stands = r.stands }

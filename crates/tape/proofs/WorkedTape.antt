@@ -17,7 +17,6 @@ use Rattle.paper.proofs.cases.WorkedTape.{last, requests, worked-figures}
 use Rattle.paper.specs.declared.Figures.{Figures}
 use Rattle.paper.specs.Allowed.{allowed}
 use Rattle.paper.specs.Bins.{enter, first, leave, rebin, seek, used}
-use Rattle.paper.specs.Answers.{seven_of}
 use Rattle.paper.specs.Counting.{figures}
 use Rattle.paper.specs.Fresh.{fresh}
 use Rattle.paper.specs.GivingBack.{give_back, give_back_large, give_back_small, left, settle}
@@ -29,6 +28,7 @@ use Rattle.lines.specs.Lines.{begin_of, line_of, rest_of}
 use Rattle.tape.specs.Alike.{printed}
 use Rattle.tape.specs.Run.{run_of}
 use Rattle.tape.proofs.States.{laid_state, serve_state, states_from, tape-by-states}
+use Rattle.paper.specs.Answers.{seven_of}
 
 -- L 1024, T 10, T 100, T 61, T 200, G 172, T 32, T 72, G 172, G 276, T 100, G 556, S: a row each
 pub worked : List ℕ

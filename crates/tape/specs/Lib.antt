@@ -1,4 +1,5 @@
 pub mod Serve
+pub mod Called
 pub mod Step
 pub mod Run
 pub mod Alike

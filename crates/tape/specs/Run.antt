@@ -3,13 +3,13 @@
 -- An unreadable record prints X, 7, 0 and is last. An empty tape prints nothing."
 use Rattle.std.specs.Prelude.{List, [], ◌∷◌, ◌++◌, ℕ, zero, suc, ◌+◌, length, drop}
 use Rattle.words.specs.Choice.{if<}
-use Rattle.paper.specs.Answers.{unreadable}
 use Rattle.records.specs.declared.request.Request.{Request}
-use Rattle.records.specs.declared.request.Record.{Record}
-use Rattle.records.specs.declared.request.Record.TheVariants.{Whole, Unreadable}
-use Rattle.records.specs.Records.{read_at}
+use Rattle.std.specs.Prelude.{None, Some}
+use Rattle.records.specs.Records.{Record, read_at}
 use Rattle.lines.specs.Lines.{line_of, letter_of}
 use Rattle.tape.specs.Serve.{Pool, pool, serve}
+use Rattle.paper.specs.Answers.{code}
+use Rattle.paper.specs.declared.Refusal.TheVariants.{Unreadable}
 
 -- the lines that are printed, and the pool at the end
 pub record Run : Type 0 where
@@ -25,11 +25,11 @@ then line r = run (line ++ r.text) r.last
 
 -- the line of a record that cannot be read: X, 7, 0
 abbrev pub x_line : (nth : ℕ) → List ℕ
-x_line nth = line_of nth 88 (unreadable ∷ 0 ∷ [])
+x_line nth = line_of nth 88 (code Unreadable ∷ 0 ∷ [])
 
 abbrev pub by_record : Record → (Request → ℕ → Run) → Run → Run
-by_record (Whole request next) served stopped = served request next
-by_record Unreadable served stopped = stopped
+by_record (Some (request, next)) served stopped = served request next
+by_record None served stopped = stopped
 
 -- the run from a place of the tape on, by record number nth; `left` bounds the records that are left
 unfoldable pub run_from : (left : ℕ) (tape : List ℕ) (at nth : ℕ) (p : Pool) → Run

@@ -3,15 +3,13 @@
 -- "Tape kind 5 lays out layout 2" (request 2026-04).
 use Rattle.std.specs.Prelude.{List, ◌++◌, ℕ, length, take as first_of, drop}
 use Rattle.words.specs.Choice.{if<}
-use Rattle.paper.specs.Answers.{Out, out, not_allowed}
-use Rattle.paper.specs.declared.Answer.{Answer}
-use Rattle.paper.specs.declared.Answer.TheVariants.{Done, Refused}
-use Rattle.paper.specs.declared.Tally.{Tally}
-use Rattle.paper.specs.declared.Tally.TheVariants.{Refused as Uncounted}
 use Rattle.pool.specs.Calls.{lay_out, take, give_back, figures}
 use Rattle.records.specs.declared.request.Request.{Request}
 use Rattle.records.specs.declared.request.Request.TheVariants.{LayOut, LayOutIndexed, Take, GiveBack, Figures}
 use Rattle.lines.specs.Lines.{answered, tallied}
+use Rattle.std.specs.declared.result.Result.TheVariants.{Ok, Err}
+use Rattle.paper.specs.declared.Refusal.TheVariants.{NotAllowed}
+use Rattle.paper.specs.Answers.{Answer, out, Out, Tally}
 
 -- the run's pool is the first n bytes of its buffer
 pub record Pool : Type 0 where
@@ -27,15 +25,15 @@ before n buffer o = out o.answer (o.after ++ drop n buffer)
 
 -- a call on the first n bytes of the buffer. An n that the buffer does not have is not allowed
 unfoldable pub on_first : (List ℕ → Out) → ℕ → List ℕ → Out
-on_first call n buffer = if< (length buffer) n (out (Refused not_allowed) buffer) (before n buffer (call (first_of n buffer)))
+on_first call n buffer = if< (length buffer) n (out (Err NotAllowed) buffer) (before n buffer (call (first_of n buffer)))
 
 unfoldable pub figures_first : ℕ → List ℕ → Tally
-figures_first n buffer = if< (length buffer) n (Uncounted not_allowed) (figures (first_of n buffer))
+figures_first n buffer = if< (length buffer) n (Err NotAllowed) (figures (first_of n buffer))
 
 -- the pool's size after a lay out
 abbrev pub accepted : Answer → (new old : ℕ) → ℕ
-accepted (Done v) new old = new
-accepted (Refused k) new old = old
+accepted (Ok v) new old = new
+accepted (Err k) new old = old
 
 -- after a request: the pool, and the numbers that it prints
 pub record Outcome : Type 0 where

@@ -1,10 +1,15 @@
 -- One step of a run: a request is served, and its line printed.
-use Rattle.std.specs.Prelude.{◌≡◌, List, ℕ}
+use Rattle.std.specs.Prelude.{◌≡◌, ℕ}
 use Rattle.records.specs.declared.request.Request.{Request}
-use Rattle.lines.specs.Lines.{line_of, Printed, letter_of}
-use Rattle.tape.specs.Serve.{Pool, pool, serve}
+use Rattle.text.specs.declared.Page.{Page}
+use Rattle.lines.specs.Lines.{line_of, letter_of}
+use Rattle.lines.specs.Printed.{Printed}
+use Rattle.tape.specs.declared.calls.RunPool.{RunPool}
+use Rattle.tape.specs.Serve.{serve}
+use Rattle.tape.specs.Called.{held}
 
--- the pool after the request has size n and the buffer `after`, and the line stands at its place of `out`
-pub record Stepped (p : Pool) (request : Request) (nth at : ℕ) (out : List ℕ) (n : ℕ) (after : List ℕ) (next : ℕ) (page : List ℕ) : Type 0 where
-  pub kept : (serve p request).after ≡ pool n after
-  pub printed : Printed at out (line_of nth (letter_of request) (serve p request).numbers) next page
+-- the pool after the request stands in the same buffer, and the line is on the page
+pub record Stepped (before : RunPool) (request : Request) (nth : ℕ) (page : Page) (after : RunPool) (page' : Page) : Type 0 where
+  pub same_bytes : after.buffer.ghost_name ≡ before.buffer.ghost_name
+  pub kept : (serve (held before) request).after ≡ held after
+  pub printed : Printed page (line_of nth (letter_of request) (serve (held before) request).numbers) page'

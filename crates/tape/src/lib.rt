@@ -2,12 +2,18 @@
 #![tactic(auto)]
 
 ghost use Rattle.std.specs.Prelude.{◌≡◌};
-ghost use Rattle.tape.specs.Run.{run_of, leaves, left};
-
-use records::{Record, record_at};
+ghost use Rattle.lines.specs.Printed.{Printed};
+ghost use Rattle.tape.specs.Run.{run_of, leaves, left, x_line};
 
 mod calls;
 mod serve;
+
+use calls::RunPool;
+use lines::Head;
+use paper::Refusal;
+use records::record_at;
+use serve::serve;
+use text::Page;
 
 // The longest tape that is run, in bytes.
 pub const LONGEST: usize = 32_768;
@@ -22,22 +28,30 @@ pub const ROOM: usize = 3_145_728;
 pub fn run(tape: &[u8], buffer: &mut [u8; BUFFER], out: &mut [u8; ROOM]) -> usize
     ensures { leaves (run_of tape.now buffer.old) out.old ≡ left result buffer.new out.new }
 {
+    let mut page = Page { out, at: 0 };
     if tape.len() > LONGEST {
-        return lines::line(out, 0, 0, b'X', paper::UNREADABLE, 0);
+        unreadable(0, &mut page);
+        return page.at;
     }
+    let mut pool = RunPool { buffer, n: 0 };
     let mut at: usize = 0;
     let mut nth: u32 = 1;
-    let mut n: u32 = 0;
-    let mut place: usize = 0;
+    // The place moves by what a record is long, so no range or iterator says where it goes.
     while at < tape.len() {
-        let Record::Whole(request, next) = record_at(tape, at) else {
-            return lines::line(out, place, nth, b'X', paper::UNREADABLE, 0);
+        let Some((request, next)) = record_at(tape, at) else {
+            unreadable(nth, &mut page);
+            return page.at;
         };
-        let served = serve::serve(request, n, nth, buffer, out, place);
-        n = served.n;
-        place = served.place;
+        serve(&mut pool, request, nth, &mut page);
         at = next;
         nth += 1;
     }
-    place
+    page.at
+}
+
+// The line of a record that cannot be read, and of a tape that is too long.
+fn unreadable(nth: u32, page: &mut Page)
+    ensures { Printed page.old (x_line nth) page.new }
+{
+    Head { nth, letter: b'X' }.answer(page, Err(Refusal::Unreadable));
 }

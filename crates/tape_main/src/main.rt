@@ -6,9 +6,11 @@ const READ: usize = 32_769;
 
 fn main(rt: HostRuntime) {
     let mut input = [0u8; READ];
-    let n = streams::read(&rt, &mut rt.stdin(), &mut input);
+    let Ok(n) = streams::read(&rt, &mut rt.stdin(), &mut input) else {
+        return;
+    };
     let mut buffer = [0u8; tape::BUFFER];
     let mut out = [0u8; tape::ROOM];
     let k = tape::run(&input[..n], &mut buffer, &mut out);
-    streams::write(&rt, &out[..k]);
+    let _ = streams::write(&rt, &out[..k]);
 }

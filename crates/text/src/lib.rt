@@ -1,41 +1,43 @@
-// Text in lent bytes: each function puts bytes at a place and answers the next place. All are total: past the end nothing is put,
-// and the place stays.
+// A page: lent bytes, and the place where the next text goes. Putting is total: past the end nothing is put, and the place stays.
 #![tactic(auto)]
 
-ghost use Rattle.std.specs.Prelude.{◌≡◌};
-ghost use Rattle.text.specs.Page.{page, put_one, put as put_of};
+ghost use Rattle.std.specs.Prelude.{[], ◌∷◌};
+ghost use Rattle.text.specs.Lent.{Puts};
 ghost use Rattle.text.specs.Numeral.{numeral as numeral_of};
 
 use itoa::Buffer;
 
-// Puts one byte.
-pub fn put_one(out: &mut [u8], at: usize, b: u8) -> usize
-    ensures { put_one (page at out.old) b ≡ page result out.new }
-{
-    if at < out.len() {
-        out[at] = b;
-        return at + 1;
-    }
-    at
+// No `fmt::Write` for `write!`, which may fail for all that its contract says: `tape::run` promises each byte of a line without fail.
+#[derive(Drop)]
+pub struct Page<'a> {
+    pub out: &'a mut [u8],
+    pub at: usize,
 }
 
-// Puts the bytes of a text, one after the other.
-pub fn put(out: &mut [u8], at: usize, text: &[u8]) -> usize
-    ensures { put_of (page at out.old) text.now ≡ page result out.new }
-{
-    let mut place = at;
-    let mut i = 0;
-    while i < text.len() {
-        place = put_one(out, place, text[i]);
-        i += 1;
+impl Page<'_> {
+    // Puts one byte.
+    pub fn put_one(&mut self, b: u8)
+        ensures { Puts self.old (b ∷ []) self.new }
+    {
+        if self.at < self.out.len() {
+            self.out[self.at] = b;
+            self.at += 1;
+        }
     }
-    place
-}
 
-// Puts a number in decimal.
-pub fn numeral(out: &mut [u8], at: usize, v: u32) -> usize
-    ensures { put_of (page at out.old) (numeral_of v) ≡ page result out.new }
-{
-    let mut digits = Buffer::new();
-    put(out, at, digits.format(v).as_bytes())
+    // Puts the bytes of a text, one after the other.
+    pub fn put(&mut self, text: &[u8])
+        ensures { Puts self.old text.now self.new }
+    {
+        for b in text {
+            self.put_one(*b);
+        }
+    }
+
+    // Puts a number in decimal.
+    pub fn numeral(&mut self, v: u32)
+        ensures { Puts self.old (numeral_of v) self.new }
+    {
+        self.put(Buffer::new().format(v).as_bytes());
+    }
 }

@@ -1,4 +1,4 @@
--- A walk along the blocks, for the loops: the whole walk is the walk from here, and each way out or on is one law.
+-- A walk along the blocks, for the loops over walk::Blocks: the whole walk is the walk from here, and each way out or on is one law.
 use mathlib.Core.Path.{◌≡◌, refl, sym, ap, ◌∙◌}
 use mathlib.Core.Logic.{◌≢◌}
 use mathlib.Core.List.{List}
@@ -6,7 +6,11 @@ use Prim.Native.Nat.{ℕ, zero, suc, ◌+◌, ◌≤◌, ◌<◌}
 use native.Mathlib.Omega.{arith}
 use Rattle.words.specs.Choice.{if=, if=-yes, if=-no, if<-yes, if<-no}
 use Rattle.heads.specs.declared.head.Head.{Head}
+use Rattle.std.proofs.Common.{Some, None, ⊎_elim}
+use Rattle.walk.specs.declared.blocks.Block.{Block}
+use Rattle.walk.specs.declared.blocks.Blocks.{Blocks}
 use Rattle.walk.specs.Blocks.{head_at, along, blocks_from}
+use Rattle.walk.specs.Steps.{Between, Steps}
 
 -- x₀ was worked out before the walk from `from`; at `at` it has become x
 pub record Along {A : Type 0} (f : A → Head → A) (bs : List ℕ) (from to : ℕ) (x₀ : A) (at : ℕ) (x : A) : Type 0 where
@@ -48,3 +52,35 @@ module _ {A : Type 0} {f : A → Head → A} {bs : List ℕ} {from to : ℕ} {x�
           enough = omega (arith, opened.1);
           same = opened.2 ∙ if=-no h.size 0 _ _ n ∙ ap (along f bs opened.0 (at + h.size) to) (sym g);
         }
+
+-- the same, where the iterator w stands
+pub record Going {A : Type 0} (f : A → Head → A) (bs : List ℕ) (from to : ℕ) (x₀ : A) (w : Blocks) (x : A) : Type 0 where
+  pub way : Along f bs from to x₀ w.at x
+  pub pool : w.pool.now ≡ bs
+  pub end : w.end ≡ to
+
+pub sets_out : {A : Type 0} (f : A → Head → A) {bs : List ℕ} {from to : ℕ} (x : A) {v w : Blocks} → Between bs from to v → w ≡ v
+    → Going f bs from to x w x
+sets_out f {bs} {from} {to} x {v} {w} b e =
+    record {
+      way = rw (ap (λ (s : Blocks). s.at) e, b.at) (begins f bs from to x);
+      pool = ap (λ (s : Blocks). s.pool.now) e ∙ b.pool;
+      end = ap (λ (s : Blocks). s.end) e ∙ b.end;
+    }
+
+module _ {A : Type 0} {f : A → Head → A} {bs : List ℕ} {from to : ℕ} {x₀ : A} {w : Blocks} {x : A} (G : Going f bs from to x₀ w x) where
+  pub arrives : {t : Blocks} → Steps w None t → blocks_from f bs from to x₀ ≡ x
+  arrives S =
+      ⊎_elim
+      (λ l. ends G.way (omega (arith, l, G.end)))
+      (λ (l, z). stuck G.way (omega (arith, l, G.end)) (head_at bs w.at) refl (rw (← G.pool) z))
+      S.gives
+
+  pub steps : {b : Block} {t : Blocks} → Steps w (Some b) t → (y : A) → y ≡ f x b.head → Going f bs from to x₀ t y
+  steps {b} S y e =
+      record {
+        way = rw S.gives.on (goes_on G.way (omega (arith, S.gives.below, G.end)) b.head
+            (S.gives.head ∙ ap (λ (v : List ℕ). head_at v w.at) G.pool) S.gives.sized y e);
+        pool = S.pool ∙ G.pool;
+        end = S.end ∙ G.end;
+      }

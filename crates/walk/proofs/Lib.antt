@@ -1,5 +1,4 @@
 pub mod Along
-pub mod Cleared
 pub mod Looking
 pub mod BlocksRead
 pub mod LookUpRead

@@ -1,19 +1,9 @@
 // The held blocks by size class.
-ghost use Rattle.std.specs.Prelude.{◌≡◌, length, replicate};
+ghost use Rattle.std.specs.Prelude.{◌≡◌};
 ghost use Rattle.walk.specs.Classes.{bumped, classes_run, class_counts, counting};
 
+use crate::blocks::Blocks;
 use paper::{BLOCKS, END, START};
-
-// All counters are 0.
-fn clear(counts: &mut [u32])
-    ensures { counts.new ≡ replicate (length counts.old) 0 }
-{
-    let mut i = 0;
-    while i < counts.len() {
-        counts[i] = 0;
-        i += 1;
-    }
-}
 
 // One more in class k.
 fn bump(counts: &mut [u32], k: u32)
@@ -29,17 +19,10 @@ fn bump(counts: &mut [u32], k: u32)
 fn count_run(pool: &[u8], counts: &mut [u32], from: u32, to: u32, already: u32) -> u32
     ensures { counting result counts.new ≡ classes_run pool.now from to (counting already counts.old) }
 {
-    let end = to as usize;
-    let mut at = from as usize;
     let mut held = already;
-    while at < end {
-        let head = heads::apart(words::get32(pool, at));
-        if head.size == 0 {
-            return held;
-        }
-        at += head.size as usize;
-        if head.held {
-            bump(counts, classes::class_of(words::minus(head.size, 4)));
+    for block in Blocks::below(pool, from, to) {
+        if block.head.held {
+            bump(counts, classes::class_of(words::minus(block.head.size, 4)));
             held = words::plus(held, 1);
         }
     }
@@ -50,9 +33,9 @@ fn count_run(pool: &[u8], counts: &mut [u32], from: u32, to: u32, already: u32) 
 pub fn count_classes(pool: &[u8], counts: &mut [u32]) -> u32
     ensures { counting result counts.new ≡ class_counts pool.now counts.old }
 {
-    clear(counts);
-    let start = words::get32(pool, START);
-    let end = words::get32(pool, END);
+    counts.fill(0);
+    let start = words::get::<u32>(pool, START);
+    let end = words::get::<u32>(pool, END);
     let low = count_run(pool, counts, BLOCKS, start, 0);
     count_run(pool, counts, end, crate::pool_end(pool), low)
 }

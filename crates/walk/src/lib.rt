@@ -1,6 +1,7 @@
 // Along the blocks, from 168 to R and from E to n. Total: a block of size 0, which no sound pool has, ends the walk.
 #![tactic(auto)]
 
+mod blocks;
 mod class_counts;
 mod looking_up;
 mod tallies;
@@ -8,6 +9,7 @@ mod tallies;
 ghost use Rattle.std.specs.Prelude.{◌≡◌};
 ghost use Rattle.walk.specs.Blocks.{pool_end};
 
+pub use blocks::{Block, Blocks};
 pub use class_counts::count_classes;
 pub use looking_up::look_up;
 pub use tallies::tally;
@@ -16,9 +18,5 @@ pub use tallies::tally;
 pub fn pool_end(pool: &[u8]) -> u32
     ensures { result ≡ pool_end pool.now }
 {
-    let n = pool.len();
-    if n < 65536 {
-        return n as u32;
-    }
-    65536
+    pool.len().min(65536) as u32
 }

@@ -2,6 +2,7 @@
 ghost use Rattle.std.specs.Prelude.{◌≡◌};
 ghost use Rattle.walk.specs.LookUp as model;
 
+use crate::blocks::Blocks;
 use heads::Head;
 use paper::{BLOCKS, END, Found, START};
 
@@ -19,19 +20,12 @@ fn found_at(head: Head, at: u32) -> Found
 fn block_at(pool: &[u8], from: u32, address: u32) -> Found
     ensures { result ≡ model.block_at pool.now address from }
 {
-    let to = address as usize;
-    let mut at = from as usize;
-    loop {
-        let head = heads::apart(words::get32(pool, at));
-        if head.size == 0 {
-            return Found::Nothing;
+    for block in Blocks::up_to(pool, from, address) {
+        if (address as usize) < block.start + block.head.size as usize {
+            return found_at(block.head, block.start as u32);
         }
-        let next = at + head.size as usize;
-        if to < next {
-            return found_at(head, at as u32);
-        }
-        at = next;
     }
+    Found::Nothing
 }
 
 // The block that `address` is in: of the large ones below R, the remainder up to E, or of the small ones from there.
@@ -41,11 +35,11 @@ pub fn look_up(pool: &[u8], address: u32) -> Found
     if address < BLOCKS {
         return Found::Nothing;
     }
-    let start = words::get32(pool, START);
+    let start = words::get::<u32>(pool, START);
     if address < start {
         return block_at(pool, BLOCKS, address);
     }
-    let end = words::get32(pool, END);
+    let end = words::get::<u32>(pool, END);
     if address < end {
         return Found::Remainder(start, words::minus(end, start));
     }

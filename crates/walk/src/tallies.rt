@@ -1,24 +1,16 @@
 // The figures of a pool.
-ghost use Rattle.std.specs.Prelude.{◌≡◌, ◌-◌, max};
+ghost use Rattle.std.specs.Prelude.{◌≡◌, ◌-◌};
 ghost use Rattle.walk.specs.Tallies as model;
 
+use crate::blocks::Blocks;
 use heads::Head;
 use paper::{BLOCKS, END, FREE_WORD, Figures, LARGE, START};
-
-fn greater(a: u32, b: u32) -> u32
-    ensures { result ≡ max a b }
-{
-    if a < b { b } else { a }
-}
 
 // The payload of a block; 0 where there is none.
 fn payload_of(size: u32) -> u32
     ensures { result ≡ size - 4 }
 {
-    if size < 4 {
-        return 0;
-    }
-    size - 4
+    size.saturating_sub(4)
 }
 
 // With one block more. `largest` is the greatest block that can be given, until all are counted.
@@ -31,7 +23,7 @@ fn counted(t: Figures, head: Head) -> Figures
         next.held_bytes = words::plus(t.held_bytes, head.size);
         return next;
     }
-    next.largest = greater(t.largest, head.size);
+    next.largest = t.largest.max(head.size);
     if head.size < LARGE {
         next.free_small = words::plus(t.free_small, 1);
         return next;
@@ -44,16 +36,9 @@ fn counted(t: Figures, head: Head) -> Figures
 fn tally_run(pool: &[u8], from: u32, to: u32, first: Figures) -> Figures
     ensures { result ≡ model.tally_run pool.now from to first }
 {
-    let end = to as usize;
-    let mut at = from as usize;
     let mut t = first;
-    while at < end {
-        let head = heads::apart(words::get32(pool, at));
-        if head.size == 0 {
-            return t;
-        }
-        t = counted(t, head);
-        at += head.size as usize;
+    for block in Blocks::below(pool, from, to) {
+        t = counted(t, block.head);
     }
     t
 }
@@ -62,8 +47,8 @@ fn tally_run(pool: &[u8], from: u32, to: u32, first: Figures) -> Figures
 pub fn tally(pool: &[u8]) -> Figures
     ensures { result ≡ model.tally pool.now }
 {
-    let start = words::get32(pool, START);
-    let end = words::get32(pool, END);
+    let start = words::get::<u32>(pool, START);
+    let end = words::get::<u32>(pool, END);
     let remainder = words::minus(end, start);
     let none = Figures {
         held_blocks: 0,
@@ -76,7 +61,7 @@ pub fn tally(pool: &[u8]) -> Figures
     };
     let low = tally_run(pool, BLOCKS, start, none);
     let mut all = tally_run(pool, end, crate::pool_end(pool), low);
-    all.free_word = words::get32(pool, FREE_WORD);
+    all.free_word = words::get::<u32>(pool, FREE_WORD);
     all.largest = payload_of(all.largest);
     all
 }

@@ -10,6 +10,6 @@ returns c =
       c.mark_run-2.ensures,
       c.pool_end.ensures,
       c.mark_run.ensures,
-      c.get32-end.ensures,
-      c.get32-start.ensures,
+      c.get-end.ensures,
+      c.get-start.ensures,
     )

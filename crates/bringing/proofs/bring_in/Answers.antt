@@ -1,9 +1,15 @@
--- bringing::bring_in meets its contract: refused with a number, or the free run at E has gone home.
+-- bringing::bring_in meets its contract: refused, or the free run at E has gone home.
+use borrow.Author.Rules.{rules}
+use mathlib.Core.Path.{◌≡◌}
+use Rattle.std.specs.declared.result.Result.TheVariants.{Err}
 use Rattle.bringing.proofs.Outcomes.{done-with, refused-with}
 use Rattle.bringing.proofs.bring_in.Goals as goal
 
-pub returns-then-why-ne0 : goal.returns-then-why-ne0
-returns-then-why-ne0 c = refused-with _ c.old_refusal-why.ensures c.if-why-ne0.true
+pub returns-in_err-check_by_old_rule : goal.returns-in_err-check_by_old_rule
+returns-in_err-check_by_old_rule c =
+    let e : c.from_residual.result ≡ Err c.in_err-check_by_old_rule.field-0.0 = search rules in
+    rw e (refused-with _ c.check_by_old_rule.ensures c.in_err-check_by_old_rule.was)
 
 pub returns : goal.returns
-returns c = done-with _ c.old_refusal-why.ensures c.if-why-ne0.false c.get32-edge.ensures c.go_home.ensures.0 c.go_home.ensures.1
+returns c =
+    done-with _ c.check_by_old_rule.ensures c.in_ok-check_by_old_rule.was c.get-edge.ensures c.go_home.ensures.0 c.go_home.ensures.1

@@ -4,4 +4,4 @@ use Rattle.giveback.proofs.earn.Goals as goal
 
 pub returns : goal.returns
 unfolding earned
-returns c = rw (c.put32.ensures, c.plus.ensures, c.get32-free.ensures)
+returns c = rw (c.put.ensures, c.plus.ensures, c.get-free.ensures)

@@ -21,7 +21,3 @@ returns-in-LargerBin c = rw c.in-LargerBin.is c.take_part.ensures
 pub returns-in-LowEnd : goal.returns-in-LowEnd
 unfolding carry_out
 returns-in-LowEnd c = rw c.in-LowEnd.is c.cut_low.ensures
-
-pub returns-in-Refusal : goal.returns-in-Refusal
-unfolding carry_out
-returns-in-Refusal c = rw c.in-Refusal.is

@@ -9,8 +9,8 @@ use Rattle.header.proofs.false_block_ok.Goals as goal
 pub returns-then-pool : goal.returns-then-pool
 returns-then-pool c = pass-no (false_tests c.args.pool.now) (λ t. omega (arith, c.if-pool.true, t.1.1.1.1.0))
 
-pub returns-then-get32-ne-FALSE_BLOCK : goal.returns-then-get32-ne-FALSE_BLOCK
-returns-then-get32-ne-FALSE_BLOCK c = pass-no (false_tests c.args.pool.now) (λ t. c.if-get32-ne-FALSE_BLOCK.true (c.get32.ensures ∙ t.0))
+pub returns-then-get-ne-FALSE_BLOCK : goal.returns-then-get-ne-FALSE_BLOCK
+returns-then-get-ne-FALSE_BLOCK c = pass-no (false_tests c.args.pool.now) (λ t. c.if-get-ne-FALSE_BLOCK.true (c.get.ensures ∙ t.0))
 
 pub returns-then-field-ne0 : goal.returns-then-field-ne0
 returns-then-field-ne0 c =
@@ -29,6 +29,6 @@ returns-then-not-zeros-2 c =
 
 pub returns : goal.returns
 returns c =
-    false-is _ c.if-pool.false c.get32.ensures c.if-get32-ne-FALSE_BLOCK.false
+    false-is _ c.if-pool.false c.get.ensures c.if-get-ne-FALSE_BLOCK.false
     c.field.ensures c.if-field-ne0.false c.zeros.ensures c.if-not-zeros.false-raw
     c.zeros-2.ensures c.if-not-zeros-2.false-raw c.reserved_ok.ensures

@@ -29,4 +29,4 @@ pub returns : goal.returns
 returns c =
     rest-is _ _ _ c.if-a-lt-BLOCKS.false c.if-b-lt8.false
     c.if-b-a.false c.if-pool-b.false c.if-a-ne0.false c.if-b-ne0.false
-    c.get32.ensures c.free_head.ensures
+    c.get.ensures c.free_head.ensures

@@ -9,7 +9,7 @@ use Rattle.homing.proofs.go_home.Goals.{then-run-ne0, else-run-ne0}
 
 pub shape_of-pool : goal.shape_of-pool
 shape_of-pool c =
-    c.put32-2.auto.s ∙ c.put32.auto.s
+    c.put-2.auto.s ∙ c.put.auto.s
     ∙ elim c.if-run-ne0.branch [ then-run-ne0 w ↦ ap length w.pool-is ∙ w.prune_all.auto.pool | else-run-ne0 w ↦ ap length w.pool-is ]
 
 pub returns : goal.returns
@@ -20,6 +20,6 @@ returns c = (
         | then-run-ne0 w ↦ lists-pruned _ _ w.if-run-ne0.true (w.pool-is ∙ w.prune_all.ensures)
         | else-run-ne0 w ↦ lists-left _ _ w.if-run-ne0.false w.pool-is
       ])
-      c.get32-start.ensures c.put32.ensures c.minus.ensures c.free_head.ensures c.put32-2.ensures,
+      c.get-start.ensures c.put.ensures c.minus.ensures c.free_head.ensures c.put-2.ensures,
   ap (λ (r : Run). r.blocks) c.free_run-run.ensures,
 )

@@ -5,7 +5,7 @@ use Rattle.words.proofs.Laws.{put_word}
 use Rattle.words.specs.Words.{put_at}
 use Rattle.homing.proofs.lead.Goals as goal
 
-pub returns-then-get32-q : goal.returns-then-get32-q
-returns-then-get32-q c =
-    sym (ap (put_at 4 _ _) (sym c.if-get32-q.true ∙ c.get32.ensures)
+pub returns-then-get-q : goal.returns-then-get-q
+returns-then-get-q c =
+    sym (ap (put_at 4 _ _) (sym c.if-get-q.true ∙ c.get.ensures)
     ∙ put_word 4 _ _ (λ i. omega (arith, c.slice_known-1.given i)))

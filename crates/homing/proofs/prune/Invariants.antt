@@ -2,8 +2,5 @@
 use Rattle.homing.proofs.Pruning.{Pruning}
 use Rattle.homing.proofs.prune.Given as goal
 
-abbrev pub invariant-loop-left : goal.invariant-loop-left
-invariant-loop-left l = Pruning l.initial.pool l.first l.edge l.pool l.left l.at l.q
-
-abbrev pub decreases-loop-left : goal.decreases-loop-left
-decreases-loop-left l = l.left
+abbrev pub invariant-loop : goal.invariant-loop
+invariant-loop l = Pruning l.initial.pool l.first l.edge l.pool l.counter l.at l.q

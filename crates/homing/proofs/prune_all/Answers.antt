@@ -8,8 +8,5 @@ loop-first-init c = begins _ _
 pub loop-first-preserved : goal.loop-first-preserved
 loop-first-preserved c = goes_on c.loop-first.invariant c.loop-first-test.true c.prune.auto.pool c.prune.ensures
 
-pub shape_of-pool : goal.shape_of-pool
-shape_of-pool c = c.loop-first.invariant.long
-
 pub returns : goal.returns
 returns c = done c.loop-first.invariant c.loop-first-test.false

@@ -4,4 +4,4 @@ use Rattle.inspect.proofs.Decide.{old-inspection}
 use Rattle.inspect.proofs.sound_by_old_rule.Goals as goal
 
 pub returns : goal.returns
-returns c = old-inspection _ _ (λ i l. omega (arith, c.shared_slice_known-1.given i)) c.inspect.ensures
+returns c = old-inspection _ _ (λ i l. omega (arith, c.type_inv.pool i)) c.inspect.ensures

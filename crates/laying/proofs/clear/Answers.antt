@@ -6,10 +6,7 @@ pub loop-k-init : goal.loop-k-init
 loop-k-init c = begins _
 
 pub loop-k-preserved : goal.loop-k-preserved
-loop-k-preserved c = one_more c.loop-k.invariant c.loop-k-test.true c.put32.ensures
-
-pub shape_of-pool : goal.shape_of-pool
-shape_of-pool c = c.loop-k.invariant.long
+loop-k-preserved c = one_more c.loop-k.invariant c.loop-k-test.true c.put.ensures
 
 pub returns : goal.returns
 returns c = all c.loop-k.invariant c.loop-k-test.false

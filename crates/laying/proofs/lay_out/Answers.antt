@@ -6,13 +6,13 @@ pub returns : goal.returns
 unfolding lay_out
 returns c =
     rw (
-      c.put32.ensures,
+      c.put-5.ensures,
       c.free_head.ensures,
       c.put_field.ensures,
-      c.put64-4.ensures,
-      c.put64-3.ensures,
-      c.put64-2.ensures,
-      c.put64.ensures,
+      c.put-4.ensures,
+      c.put-3.ensures,
+      c.put-2.ensures,
+      c.put.ensures,
       c.minus.ensures,
       c.clear.ensures,
       c.minus-rest.ensures,

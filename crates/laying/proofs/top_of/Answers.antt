@@ -1,17 +1,17 @@
--- laying::top_of meets its contract, by its tests.
-use mathlib.Core.Path.{sym, ◌∙◌}
+-- laying::top_of meets its contract, by its numbers.
+use Rattle.std.proofs.Common.{sym, ◌∙◌, arith}
 use Rattle.paper.specs.Fresh.{layout_top}
 use Rattle.words.specs.Choice.{if=-yes, if=-no}
 use Rattle.laying.proofs.top_of.Goals as goal
 
-pub returns-then-layout-eq1 : goal.returns-then-layout-eq1
+pub returns-in-1-clause-named : goal.returns-in-1-clause-named
 unfolding layout_top
-returns-then-layout-eq1 c = sym (if=-yes _ _ _ _ c.if-layout-eq1.true)
+returns-in-1-clause-named c = (sym (if=-yes _ _ _ _ c.in-1.is), omega arith)
 
-pub returns-then-layout-eq2 : goal.returns-then-layout-eq2
+pub returns-in-2-clause-named : goal.returns-in-2-clause-named
 unfolding layout_top
-returns-then-layout-eq2 c = sym (if=-no _ _ _ _ c.if-layout-eq1.false ∙ if=-yes _ _ _ _ c.if-layout-eq2.true)
+returns-in-2-clause-named c = (sym (if=-no _ _ _ _ (omega arith) ∙ if=-yes _ _ _ _ c.in-2.is), omega arith)
 
-pub returns : goal.returns
+pub returns-in_default-clause-unnamed : goal.returns-in_default-clause-unnamed
 unfolding layout_top
-returns c = sym (if=-no _ _ _ _ c.if-layout-eq1.false ∙ if=-no _ _ _ _ c.if-layout-eq2.false)
+returns-in_default-clause-unnamed c = if=-no _ _ _ _ (omega arith) ∙ if=-no _ _ _ _ (omega arith)

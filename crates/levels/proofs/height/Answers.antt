@@ -7,10 +7,6 @@ pub returns-then-top-eq1 : goal.returns-then-top-eq1
 unfolding height
 returns-then-top-eq1 c = omega arith
 
-pub returns-then-zeros-top : goal.returns-then-zeros-top
-unfolding height
-returns-then-zeros-top c = omega arith
-
 pub returns : goal.returns
 unfolding height
 returns c = omega arith

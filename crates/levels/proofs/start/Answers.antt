@@ -1,6 +1,4 @@
 -- `start`, by its tests.
-use native.Mathlib.Omega.{arith}
-use lib.Count.{leading_le}
 use Rattle.levels.specs.Levels.{start_of}
 use Rattle.words.specs.Choice.{if=-yes, if=-no}
 use mathlib.Core.Path.{sym, ◌∙◌}
@@ -10,17 +8,10 @@ pub returns-then-top-eq1 : goal.returns-then-top-eq1
 unfolding start_of
 returns-then-top-eq1 c = sym (if=-yes _ _ _ _ c.if-top-eq1.true)
 
-pub overflow_sub-bits : goal.overflow_sub-bits
-overflow_sub-bits c = leading_le 32 _
-
 pub returns-then-bits-eq0 : goal.returns-then-bits-eq0
 unfolding start_of
 returns-then-bits-eq0 c = sym (if=-no _ _ _ _ c.if-top-eq1.false ∙ if=-yes _ _ _ _ c.if-bits-eq0.true)
 
-pub returns-then-top-bits : goal.returns-then-top-bits
+pub returns-else-bits-eq0 : goal.returns-else-bits-eq0
 unfolding start_of
-returns-then-top-bits c = sym (if=-no _ _ _ _ c.if-top-eq1.false ∙ if=-no _ _ _ _ c.if-bits-eq0.false ∙ omega arith)
-
-pub returns : goal.returns
-unfolding start_of
-returns c = sym (if=-no _ _ _ _ c.if-top-eq1.false ∙ if=-no _ _ _ _ c.if-bits-eq0.false ∙ omega arith)
+returns-else-bits-eq0 c = c.min.ensures ∙ sym (if=-no _ _ _ _ c.if-top-eq1.false ∙ if=-no _ _ _ _ c.if-bits-eq0.false)

@@ -8,6 +8,6 @@ pub returns-then-field-eq-LEVELS : goal.returns-then-field-eq-LEVELS
 unfolding top_of
 returns-then-field-eq-LEVELS c = sym (if=-yes _ _ _ _ (sym c.field.ensures ∙ c.if-field-eq-LEVELS.true))
 
-pub returns : goal.returns
+pub returns-else-field-eq-LEVELS : goal.returns-else-field-eq-LEVELS
 unfolding top_of
-returns c = sym (if=-no _ _ _ _ (λ e. c.if-field-eq-LEVELS.false (c.field.ensures ∙ e)))
+returns-else-field-eq-LEVELS c = sym (if=-no _ _ _ _ (λ e. c.if-field-eq-LEVELS.false (c.field.ensures ∙ e)))

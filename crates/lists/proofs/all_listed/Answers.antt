@@ -2,19 +2,17 @@
 use Rattle.lists.proofs.LargeBins.{lists-astray, lists-lost, lists-on}
 use Rattle.lists.proofs.all_listed.Goals as goal
 
--- d is the place where the small bins were followed
-
-pub returns-then-not-r : goal.returns-then-not-r
-returns-then-not-r c = lists-lost _ _ _ _ c.small_bins-r.result c.small_bins-r.ensures c.if-not-r.true
+pub returns-in_default : goal.returns-in_default
+returns-in_default c = lists-lost _ _ _ _ c.small_bins.result c.small_bins.ensures c.in_default.is
 
 pub returns-then-not-index_ok : goal.returns-then-not-index_ok
 returns-then-not-index_ok c =
-    lists-astray _ _ _ _ c.small_bins-r.result c.small_bins-r.ensures c.if-not-r.false
-    c.top-top.ensures c.index_ok.result _ c.index_ok.ensures c.if-not-index_ok.true-raw
+    lists-astray _ _ _ _ c.small_bins.result c.small_bins.ensures c.in-Some.is
+    c.top-top.ensures c.index_ok.result _ c.index_ok.ensures c.if-not-index_ok.true
 
 pub returns : goal.returns
 returns c =
-    lists-on _ _ _ _ c.small_bins-r.result c.small_bins-r.ensures c.if-not-r.false c.top-top.ensures
-    c.index_ok.result _ c.index_ok.ensures c.if-not-index_ok.false-raw
+    lists-on _ _ _ _ c.small_bins.result c.small_bins.ensures c.in-Some.is c.top-top.ensures
+    c.index_ok.result _ c.index_ok.ensures c.if-not-index_ok.false
     c.field.ensures c.follow-f.ensures
     c.large_bins.ensures

@@ -5,4 +5,4 @@ use Rattle.heads.specs.Heads.{size_of}
 use Rattle.lists.proofs.size_at.Goals as goal
 
 pub returns : goal.returns
-returns c = c.size_of.ensures ∙ ap (λ (w : ℕ). size_of w) c.get32.ensures
+returns c = c.size_of.ensures ∙ ap (λ (w : ℕ). size_of w) c.get.ensures

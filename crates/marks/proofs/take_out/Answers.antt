@@ -1,13 +1,9 @@
 -- `take_out` stores the word with the digit put to 0; past the end nothing is stored.
 use mathlib.Core.Path.{sym}
-use lib.Bits.{and_le_l}
 use lib.Seq.{set_out}
 use Rattle.marks.specs.Marks.{put_bit_at}
 use Rattle.marks.proofs.Laws.{stored-out}
 use Rattle.marks.proofs.take_out.Goals as goal
-
-pub overflow_sub-s : goal.overflow_sub-s
-overflow_sub-s c = and_le_l _ _
 
 pub returns-then-q-s : goal.returns-then-q-s
 returns-then-q-s c = stored-out _ _

@@ -1,5 +1,4 @@
 -- moving::stand meets its contract: the invariant says that all levels are the levels from here.
-use mathlib.Core.Path.{◌∙◌}
 use native.Mathlib.Omega.{arith}
 use Rattle.moving.proofs.Levels.{climbing, climbs, climbed, too-high}
 use Rattle.moving.proofs.stand.Goals as goal
@@ -13,8 +12,10 @@ loop-level-init c = climbing _ _ _
 pub loop-level-preserved : goal.loop-level-preserved
 loop-level-preserved c = climbs c.loop-level.invariant (omega (arith, c.loop-level-test.true)) c.word.ensures c.link_word.ensures c.put_field-in-loop-level.ensures
 
-pub shape_of-pool : goal.shape_of-pool
-shape_of-pool c = c.loop-level.invariant.long ∙ c.put_field.auto.s
+pub returns-else-h-gt-LEVELS : goal.returns-else-h-gt-LEVELS
+returns-else-h-gt-LEVELS c = climbed c.loop-level.invariant c.loop-level-test.false c.if-h-gt-LEVELS.false _ c.put_field.ensures
 
-pub returns : goal.returns
-returns c = climbed c.loop-level.invariant c.loop-level-test.false c.if-h-gt-LEVELS.false _ c.put_field.ensures
+pub returns-else-h-gt-LEVELS-2 : goal.returns-else-h-gt-LEVELS-2
+returns-else-h-gt-LEVELS-2 c =
+    climbed (climbs c.loop-level.invariant (omega arith) c.word.ensures c.link_word.ensures c.put_field-in-loop-level.ensures)
+    (omega arith) c.if-h-gt-LEVELS.false _ c.put_field.ensures

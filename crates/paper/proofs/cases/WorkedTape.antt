@@ -12,8 +12,6 @@ use Rattle.paper.proofs.keeps.FreshSound.{fresh-well-formed}
 use Rattle.paper.proofs.keeps.Givable.{greatest_givable}
 use Rattle.paper.proofs.keeps.LargestGrant.{plain-rule}
 use Rattle.paper.proofs.keeps.TakeKeeps.{take-well-formed}
-use Rattle.paper.specs.declared.Answer.{Answer}
-use Rattle.paper.specs.declared.Answer.TheVariants.{Done, Refused}
 use Rattle.paper.specs.Blocks.{State}
 use Rattle.paper.specs.Bins.{first, seek, rebin, enter, leave, used}
 use Rattle.paper.specs.Runs.{under, from, replace, starts_at, ends_at, sum_of}
@@ -23,6 +21,9 @@ use Rattle.paper.specs.Granting.{Result, choose_small, smallest_bin, choose_larg
 use Rattle.paper.specs.GivingBack.{give_back_small, left, settle, give_back_large, give_back}
 use Rattle.paper.specs.LookingUp.{block_at, look_up}
 use Rattle.paper.specs.Counting.{figures, counters_from, class_counters}
+use Rattle.std.specs.declared.result.Result.TheVariants.{Ok, Err}
+use Rattle.paper.specs.Answers.{Answer}
+use Rattle.paper.specs.declared.Refusal.TheVariants.{NotHeld}
 
 pub data Request : Type 0 where
   T G : ℕ → Request
@@ -43,7 +44,7 @@ unfoldable pub requests : List Request
 requests = T 10 ∷ T 100 ∷ T 61 ∷ T 200 ∷ G 172 ∷ T 32 ∷ T 72 ∷ G 172 ∷ G 276 ∷ T 100 ∷ G 556 ∷ []
 
 pub worked-answers : answers (fresh 1 1024) requests
-    ≡ Done 1012 ∷ Done 172 ∷ Done 276 ∷ Done 348 ∷ Done 100 ∷ Done 972 ∷ Done 556 ∷ Refused 5 ∷ Done 68 ∷ Done 172 ∷ Done 76 ∷ []
+    ≡ Ok 1012 ∷ Ok 172 ∷ Ok 276 ∷ Ok 348 ∷ Ok 100 ∷ Ok 972 ∷ Ok 556 ∷ Err NotHeld ∷ Ok 68 ∷ Ok 172 ∷ Ok 76 ∷ []
 unfolding requests if< if= block_size first seek rebin enter leave used under from replace starts_at ends_at sum_of fresh choose_small smallest_bin choose_large choose take_first cut_high take_whole take_part cut_low take block_at look_up give_back_small left settle give_back_large give_back
 worked-answers = refl
 

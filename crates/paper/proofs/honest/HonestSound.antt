@@ -17,7 +17,6 @@ use Rattle.paper.proofs.reads.Stands.{Stands}
 use Rattle.paper.proofs.keeps.TakeKeeps.{take-keeps}
 use Rattle.paper.proofs.sheet.WrittenBytes.{write_bytes}
 use Rattle.paper.specs.Allowed.{Allowed, allowed}
-use Rattle.paper.specs.Answers.{Out}
 use Rattle.paper.specs.Blocks.{State}
 use Rattle.paper.specs.Calls.{Reading, Reads, broken, laying_out, lay_out_call, misfit, sound}
 use Rattle.paper.specs.Fresh.{fresh, layout_top}
@@ -27,6 +26,7 @@ use Rattle.paper.specs.Sheet.{write}
 use Rattle.paper.specs.Sound.{SoundTo}
 use Rattle.words.specs.Choice.{if=-no, if=-yes, when-yes}
 use Rattle.words.specs.Words.{Bytes}
+use Rattle.paper.specs.Answers.{Out}
 
 -- a sound pool of bytes, with an index t high
 pub record SoundBytes (t : ℕ) (p : List ℕ) : Type 0 where

@@ -3,7 +3,6 @@
 use mathlib.Core.List.{List, [], ◌∷◌}
 use mathlib.Core.Path.{◌≡◌, refl, ap, sym, ◌∙◌}
 use Prim.Native.Nat.{ℕ, zero, suc, ◌+◌, ◌-◌}
-use Rattle.paper.specs.declared.Answer.TheVariants.{Done}
 use Rattle.paper.specs.declared.Found.{Found}
 use Rattle.paper.specs.declared.Found.TheVariants.{Held, Free, Remainder, Nothing}
 use Rattle.paper.specs.Blocks.{Block, State, block, blocks, free, free_sum, held, remainder, with_top}
@@ -16,6 +15,7 @@ use Rattle.paper.specs.Layout.{large}
 use Rattle.paper.specs.LookingUp.{by_offset, look_up}
 use Rattle.paper.specs.Runs.{held_size, sum_of}
 use Rattle.words.specs.Choice.{by<, by=, if<, if<-no, if<-yes, if=-no, if=-yes}
+use Rattle.std.specs.declared.result.Result.TheVariants.{Ok}
 
 -- the same answer, and the same blocks and lists
 abbrev pub retopped : ℕ → Result → Result
@@ -64,7 +64,7 @@ module _ (t : ℕ) (s : State) where
       (λ h. if<-no z large _ _ h ∙ settle_any _ _ _ ∙ ap (with_top t) (sym (if<-no z large _ _ h)))
 
   abbrev given : State → ℕ → ℕ → Result
-  given u q z = record { answer = Done (z - 4); state = if< z large (go_home (give_back_small u q z)) (give_back_large u q z) }
+  given u q z = record { answer = Ok (z - 4); state = if< z large (go_home (give_back_small u q z)) (give_back_large u q z) }
 
   pub give-back-any : (offset : ℕ) → give_back (with_top t s) offset ≡ retopped t (give_back s offset)
   unfolding give_back look_up
@@ -73,7 +73,7 @@ module _ (t : ℕ) (s : State) where
       go : (x : Found) → by_offset x offset (λ k. refused k (with_top t s)) (given (with_top t s)) ≡ retopped t (by_offset x offset (λ k. refused k s) (given s))
       go (Held q z) =
           by= offset (q + 4)
-          (λ e. if=-yes offset (q + 4) _ _ e ∙ ap (λ (u : State). record { answer = Done (z - 4); state = u }) (back_any q z)
+          (λ e. if=-yes offset (q + 4) _ _ e ∙ ap (λ (u : State). record { answer = Ok (z - 4); state = u }) (back_any q z)
           ∙ ap (retopped t) (sym (if=-yes offset (q + 4) _ _ e)))
           (λ e. if=-no offset (q + 4) _ _ e ∙ ap (retopped t) (sym (if=-no offset (q + 4) _ _ e)))
       go (Free q z) = refl

@@ -12,8 +12,6 @@ use Rattle.paper.proofs.runs.HeldPlaces.{HeldHigh, HeldLow, held-at-lies, held-l
 use Rattle.paper.proofs.runs.LookedUp.{look_up-held, look_up-none}
 use Rattle.paper.proofs.keeps.Kept.{Kept, kept_same, kept-shaped, shaped-then, sized-high, sized-low}
 use Rattle.paper.proofs.runs.Splitting.{sized-mid-parts}
-use Rattle.paper.specs.declared.Answer.TheVariants.{Done, Refused}
-use Rattle.paper.specs.Answers.{not_held}
 use Rattle.paper.specs.Blocks.{State, block, held}
 use Rattle.paper.specs.GivingBack.{give_back, give_back_large, give_back_small}
 use Rattle.paper.specs.GoingHome.{go_home}
@@ -21,6 +19,9 @@ use Rattle.paper.specs.Granting.{Result, refused}
 use Rattle.paper.specs.Layout.{large}
 use Rattle.paper.specs.Sound.{Sized, WellFormed}
 use Rattle.words.specs.Choice.{by<, by=, if<, if<-no, if<-yes}
+use Rattle.std.specs.declared.result.Result.TheVariants.{Ok, Err}
+use Rattle.paper.specs.declared.Refusal.TheVariants.{NotHeld}
+use Rattle.paper.specs.declared.Refusal.{Refusal}
 
 -- a held block has a size
 pub held-sized : (s : State) → WellFormed s → (offset : ℕ) → 1 ≤ held_at s offset → (8 ≤ held_at s offset) × (held_at s offset % 8 ≡ 0)
@@ -32,14 +33,14 @@ held-sized s W offset l = go (held-at-lies s W offset l)
 
 -- ---- the ways of a give-back
 
-pub give_back-none : (s : State) → WellFormed s → (offset : ℕ) → held_at s offset ≡ 0 → give_back s offset ≡ refused not_held s
+pub give_back-none : (s : State) → WellFormed s → (offset : ℕ) → held_at s offset ≡ 0 → give_back s offset ≡ refused NotHeld s
 unfolding give_back
 give_back-none s W offset e = look_up-none offset _ _ s W.sized e
 
 pub give_back-some : (s : State) → WellFormed s → (offset : ℕ) → held_at s offset ≢ 0
     → give_back s offset
     ≡ record {
-      answer = Done (held_at s offset - 4);
+      answer = Ok (held_at s offset - 4);
       state = if< (held_at s offset) large (go_home (give_back_small s (offset - 4) (held_at s offset))) (give_back_large s (offset - 4) (held_at s offset));
     }
 unfolding give_back
@@ -74,17 +75,17 @@ give_back-keeps s W offset =
 
 -- ---- what its answer says
 
-pub give_back-refused : (s : State) → WellFormed s → (offset k : ℕ) → (give_back s offset).answer ≡ Refused k → ((give_back s offset).state ≡ s) × (held_at s offset ≡ 0)
+pub give_back-refused : (s : State) → WellFormed s → (offset : ℕ) (k : Refusal) → (give_back s offset).answer ≡ Err k → ((give_back s offset).state ≡ s) × (held_at s offset ≡ 0)
 give_back-refused s W offset k a =
     by= (held_at s offset) 0 (λ e. (ap (λ (r : Result). r.state) (give_back-none s W offset e), e))
-    (λ n. let d : Done (held_at s offset - 4) ≡ Refused k = sym (ap (λ (r : Result). r.answer) (give_back-some s W offset n)) ∙ a in
+    (λ n. let d : Ok (held_at s offset - 4) ≡ Err k = sym (ap (λ (r : Result). r.answer) (give_back-some s W offset n)) ∙ a in
     absurd (let z : ◌≡◌ {A = ℕ} 0 1 = cc in omega arith))
 
-pub give_back-done : (s : State) → WellFormed s → (offset v : ℕ) → (give_back s offset).answer ≡ Done v → held_at s offset ≡ v + 4
+pub give_back-done : (s : State) → WellFormed s → (offset v : ℕ) → (give_back s offset).answer ≡ Ok v → held_at s offset ≡ v + 4
 give_back-done s W offset v a =
     by= (held_at s offset) 0
-    (λ e. let d : Refused not_held ≡ Done v = sym (ap (λ (r : Result). r.answer) (give_back-none s W offset e)) ∙ a in
+    (λ e. let d : Err NotHeld ≡ Ok v = sym (ap (λ (r : Result). r.answer) (give_back-none s W offset e)) ∙ a in
     absurd (let z : ◌≡◌ {A = ℕ} 0 1 = cc in omega arith))
-    (λ n. let d : Done (held_at s offset - 4) ≡ Done v = sym (ap (λ (r : Result). r.answer) (give_back-some s W offset n)) ∙ a in
+    (λ n. let d : Ok (held_at s offset - 4) ≡ Ok v = sym (ap (λ (r : Result). r.answer) (give_back-some s W offset n)) ∙ a in
     let e : held_at s offset - 4 ≡ v = cc in
     omega (arith, held-sized s W offset (omega arith)))

@@ -14,7 +14,6 @@ use Rattle.paper.proofs.keeps.Kept.{held-runs, sized-high, sized-low}
 use Rattle.paper.proofs.runs.Neighbours.{Run, gap, gap-none, gap-some, gap-total, run}
 use Rattle.paper.proofs.keeps.Settled.{fewer, give_back_large-enters, give_back_large-joins, give_back_large-touches, into_bin, into_remainder, joined, joined-total}
 use Rattle.paper.proofs.runs.Splitting.{sized-mid-parts, starts-append, starts-cons, starts-mid, total-mid}
-use Rattle.paper.specs.Answers.{not_held}
 use Rattle.paper.specs.Bins.{rebin}
 use Rattle.paper.specs.Blocks.{Block, State, block, blocks, free, held, total}
 use Rattle.paper.specs.GivingBack.{give_back, give_back_large, give_back_small}
@@ -24,6 +23,7 @@ use Rattle.paper.specs.Layout.{blocks_at, large}
 use Rattle.paper.specs.Runs.{held_size, starts_at}
 use Rattle.paper.specs.Sound.{Sized, WellFormed}
 use Rattle.words.specs.Choice.{by<, by=, if<-no, if<-yes, if=, if=-no, if=-same, if=-yes}
+use Rattle.paper.specs.declared.Refusal.TheVariants.{NotHeld}
 
 -- s' is s without the held block of size z at q
 unfoldable pub Released : State → State → ℕ → ℕ → Type 0
@@ -186,5 +186,5 @@ give_back-then-others s W offset o d =
 
 -- so a second give-back of the offset is refused
 pub give_back-twice-refused : (s : State) → WellFormed s → (offset : ℕ)
-    → give_back (give_back s offset).state offset ≡ refused not_held (give_back s offset).state
+    → give_back (give_back s offset).state offset ≡ refused NotHeld (give_back s offset).state
 give_back-twice-refused s W offset = give_back-none (give_back s offset).state (give_back-keeps s W offset).well_formed offset (give_back-then-none s W offset)

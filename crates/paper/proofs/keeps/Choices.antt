@@ -4,16 +4,16 @@ use mathlib.Core.Path.{◌≡◌}
 use Prim.Native.Nat.{◌+◌, ◌<◌, ◌≤◌, ℕ}
 use Rattle.heads.specs.Heads.{block_size}
 use Rattle.paper.proofs.bins.Smallest.{smallest-found}
-use Rattle.paper.specs.Answers.{no_room, no_size}
 use Rattle.paper.specs.Bins.{first}
 use Rattle.paper.specs.Blocks.{State}
 use Rattle.paper.specs.Granting.{Choice, choose, choose_large, choose_small, exact_bin, first_of_bin, high_end, larger_bin, low_end, refusal, smallest_bin}
 use Rattle.paper.specs.Layout.{large}
 use Rattle.words.specs.Choice.{by<, by=, ifs}
+use Rattle.paper.specs.declared.Refusal.TheVariants.{NoRoom, NoSize}
 
 pub record Choices (s : State) (payload b : ℕ) (P : Choice → Type 0) : Type 0 where
-  pub without-size : payload ≡ 0 → P (refusal no_size)
-  pub without-room : payload ≢ 0 → first (s.bins b) ≡ 0 → s.rest < b + 8 → P (refusal no_room)
+  pub without-size : payload ≡ 0 → P (refusal NoSize)
+  pub without-room : payload ≢ 0 → first (s.bins b) ≡ 0 → s.rest < b + 8 → P (refusal NoRoom)
   pub from-its-bin : b < large → first (s.bins b) ≢ 0 → P (first_of_bin b)
   pub from-high-end : b < large → b + 8 ≤ s.rest → P (high_end b)
   pub from-exact : large ≤ b → first (s.bins b) ≢ 0 → P (exact_bin b)

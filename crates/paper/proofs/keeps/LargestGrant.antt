@@ -7,26 +7,27 @@ use native.Mathlib.Omega.{arith}
 use Rattle.heads.specs.Heads.{block_size}
 use Rattle.paper.proofs.keeps.Choices.{by-choices}
 use Rattle.paper.proofs.keeps.Givable.{bin-givable, givable-eights, givable-le, givable-source, greatest_givable, rest-givable}
-use Rattle.paper.specs.declared.Answer.{Answer}
-use Rattle.paper.specs.declared.Answer.TheVariants.{Done, Refused}
-use Rattle.paper.specs.Answers.{no_room}
 use Rattle.paper.specs.Bins.{first}
 use Rattle.paper.specs.Blocks.{State, blocks}
 use Rattle.paper.specs.Granting.{Result, carry_out, cut_high, cut_low, refused, take, take_first, take_part, take_whole}
 use Rattle.paper.specs.LargestGrant.{greatest_grant, if_granted, largest_grant}
 use Rattle.paper.specs.Sound.{WellFormed}
 use Rattle.words.specs.Choice.{by=}
+use Rattle.std.specs.declared.result.Result.TheVariants.{Ok, Err}
+use Rattle.paper.specs.declared.Refusal.TheVariants.{NoRoom}
+use Rattle.paper.specs.Answers.{Answer}
+use Rattle.paper.specs.declared.Refusal.{Refusal}
 
 -- a take of a payload is granted
 abbrev pub Grants : State → ℕ → Type 0
-Grants s payload = (offset : ℕ) × ((take s payload).answer ≡ Done offset)
+Grants s payload = (offset : ℕ) × ((take s payload).answer ≡ Ok offset)
 
 -- ---- when it is, and when it is not
 module _ (s : State) (payload : ℕ) (n : payload ≢ 0) where
   granted-if : (first (s.bins (block_size payload)) ≢ 0) ⊎ (block_size payload + 8 ≤ s.rest) → Grants s payload
   unfolding take take_first cut_high take_whole take_part cut_low
   granted-if source =
-      by-choices s payload (λ c. (offset : ℕ) × ((carry_out s c).answer ≡ Done offset))
+      by-choices s payload (λ c. (offset : ℕ) × ((carry_out s c).answer ≡ Ok offset))
       (record {
         without-size = λ e. absurd (n e);
         without-room = λ m e r. absurd (neither e r source);
@@ -42,10 +43,10 @@ module _ (s : State) (payload : ℕ) (n : payload ≢ 0) where
       neither e r (inl m) = m e
       neither e r (inr m) = omega arith
 
-  refused-if : ((z : ℕ) → block_size payload ≤ z → first (s.bins z) ≡ 0) → s.rest < block_size payload + 8 → take s payload ≡ refused no_room s
+  refused-if : ((z : ℕ) → block_size payload ≤ z → first (s.bins z) ≡ 0) → s.rest < block_size payload + 8 → take s payload ≡ refused NoRoom s
   unfolding take
   refused-if empty short =
-      by-choices s payload (λ c. carry_out s c ≡ refused no_room s)
+      by-choices s payload (λ c. carry_out s c ≡ refused NoRoom s)
       (record {
         without-size = λ e. absurd (n e);
         without-room = λ m e r. refl;
@@ -57,7 +58,7 @@ module _ (s : State) (payload : ℕ) (n : payload ≢ 0) where
       })
 
 -- what is granted, with every greater size refused, is the greatest
-greatest-is : (s : State) (m k : ℕ) → k ≤ m → (k ≢ 0 → Grants s k) → ((p : ℕ) → k < p → take s p ≡ refused no_room s) → greatest_grant s m ≡ k
+greatest-is : (s : State) (m k : ℕ) → k ≤ m → (k ≢ 0 → Grants s k) → ((p : ℕ) → k < p → take s p ≡ refused NoRoom s) → greatest_grant s m ≡ k
 unfolding greatest_grant
 greatest-is s zero k l g r = omega arith
 greatest-is s (suc m) k l g r =
@@ -87,7 +88,7 @@ module _ (s : State) (W : WellFormed s) where
       source b (inl m) = inl (subst (λ (z : ℕ). first (s.bins z) ≢ 0) (sym b) m)
       source b (inr e) = inr (omega arith)
 
-  rule-refuses : (p : ℕ) → greatest_givable (blocks s) - 4 < p → take s p ≡ refused no_room s
+  rule-refuses : (p : ℕ) → greatest_givable (blocks s) - 4 < p → take s p ≡ refused NoRoom s
   unfolding block_size
   rule-refuses p l =
       refused-if s p (omega arith)
@@ -119,19 +120,19 @@ module _ (s : State) (W : WellFormed s) where
   pub largest-granted : largest_grant s ≢ 0 → Grants s (largest_grant s)
   largest-granted n = subst (Grants s) (sym plain-rule) (rule-grants (λ e. n (plain-rule ∙ e)))
 
-  pub greater-refused : (p : ℕ) → largest_grant s < p → take s p ≡ refused no_room s
+  pub greater-refused : (p : ℕ) → largest_grant s < p → take s p ≡ refused NoRoom s
   greater-refused p l = rule-refuses p (omega (arith, plain-rule))
 
   -- it is 0 exactly if every size from 1 on is refused
-  pub none-refused : largest_grant s ≡ 0 → (p : ℕ) → 1 ≤ p → take s p ≡ refused no_room s
+  pub none-refused : largest_grant s ≡ 0 → (p : ℕ) → 1 ≤ p → take s p ≡ refused NoRoom s
   none-refused e p l = greater-refused p (omega arith)
 
-  pub refused_none : ((p : ℕ) → 1 ≤ p → p < 4294967296 → (k : ℕ) × ((take s p).answer ≡ Refused k)) → largest_grant s ≡ 0
+  pub refused_none : ((p : ℕ) → 1 ≤ p → p < 4294967296 → (k : Refusal) × ((take s p).answer ≡ Err k)) → largest_grant s ≡ 0
   refused_none r =
       by= (largest_grant s) 0 (λ e. e)
       (λ n. let g = largest-granted n in
       let h = r (largest_grant s) (omega arith) (omega (arith, plain-rule, givable-le (blocks s), W.fits)) in
       absurd (never (sym g.1 ∙ h.1)))
     where
-      never : {k o : ℕ} → Done o ≡ Refused k → ⊥
+      never : {k : Refusal} {o : ℕ} → Ok o ≡ Err k → ⊥
       never e = let z : ◌≡◌ {A = ℕ} 0 1 = cc in omega arith

@@ -14,13 +14,14 @@ use Rattle.paper.proofs.runs.Places.{first-in-high, in-apart, used-in-low}
 use Rattle.paper.proofs.runs.Replaced.{in-replaced}
 use Rattle.paper.proofs.keeps.TakeKeeps.{take-well-formed}
 use Rattle.paper.proofs.runs.Walk.{In, flag_past, in_left, in-mid}
-use Rattle.paper.specs.declared.Answer.TheVariants.{Done}
 use Rattle.paper.specs.Bins.{first, used}
 use Rattle.paper.specs.Blocks.{Block, State, block, blocks, free, held, remainder, size}
 use Rattle.paper.specs.Granting.{E, R, Result, carry_out, cut_high, cut_low, granted, refused, take, take_first, take_part, take_whole}
 use Rattle.paper.specs.Layout.{blocks_at, large}
 use Rattle.paper.specs.Runs.{replace, under}
 use Rattle.paper.specs.Sound.{WellFormed}
+use Rattle.std.specs.declared.result.Result.TheVariants.{Ok}
+use Rattle.paper.specs.declared.Refusal.{Refusal}
 
 -- b bytes of s that start at a are in no held block
 abbrev pub Free : State → ℕ → ℕ → Type 0
@@ -29,9 +30,9 @@ Free s a b = (q z P : ℕ) → In (blocks s) blocks_at 1 q (block z held) P → 
 -- what a grant of b bytes means, if it is one: where the block is, of which bytes it was made
 abbrev Grants : State → ℕ → Result → Type 0
 Grants s b r =
-    (o : ℕ) → r.answer ≡ Done o → (a : ℕ) × (o ≡ a + 4) × ((P : ℕ) × In (blocks r.state) blocks_at 1 a (block b held) P) × Free s a b
+    (o : ℕ) → r.answer ≡ Ok o → (a : ℕ) × (o ≡ a + 4) × ((P : ℕ) × In (blocks r.state) blocks_at 1 a (block b held) P) × Free s a b
 
-refused-grants : (s : State) (b k : ℕ) → Grants s b (refused k s)
+refused-grants : (s : State) (b : ℕ) (k : Refusal) → Grants s b (refused k s)
 refused-grants s b k o e = absurd (let z : ◌≡◌ {A = ℕ} 0 1 = cc in omega arith)
 
 granted-grants : (s : State) (b a : ℕ) (s' : State) (P : ℕ) → In (blocks s') blocks_at 1 a (block b held) P → Free s a b → Grants s b (granted a s')
@@ -137,7 +138,7 @@ take_places s W payload =
       from-low-end = λ l r. cut_low-grants s W b r;
     })
 
-module _ (s : State) (W : WellFormed s) (payload o : ℕ) (e : (take s payload).answer ≡ Done o) where
+module _ (s : State) (W : WellFormed s) (payload o : ℕ) (e : (take s payload).answer ≡ Ok o) where
   pub take-past-head : 4 ≤ o
   take-past-head = omega (arith, (take_places s W payload o e).1)
 

@@ -8,11 +8,12 @@ use Rattle.paper.proofs.keeps.Choices.{by-choices}
 use Rattle.paper.proofs.keeps.Kept.{Kept, kept_same}
 use Rattle.paper.proofs.keeps.TakeLargeKeeps.{cut_low-keeps, take_part-keeps, take_whole-keeps}
 use Rattle.paper.proofs.keeps.TakeSmallKeeps.{cut_high-keeps, take_first-keeps}
-use Rattle.paper.specs.Answers.{no_room}
-use Rattle.paper.specs.declared.Answer.TheVariants.{Refused}
 use Rattle.paper.specs.Blocks.{State, end}
 use Rattle.paper.specs.Granting.{Result, carry_out, cut_high, cut_low, granted, take, take_first, take_part, take_whole}
 use Rattle.paper.specs.Sound.{WellFormed}
+use Rattle.std.specs.declared.result.Result.TheVariants.{Err}
+use Rattle.paper.specs.declared.Refusal.TheVariants.{NoRoom}
+use Rattle.paper.specs.declared.Refusal.{Refusal}
 
 -- ---- the block that a payload needs
 pub block_size-least : (payload : ℕ) → 8 ≤ block_size payload
@@ -52,7 +53,7 @@ take-same-top s W payload = (take-keeps s W payload).same-top
 
 -- ---- refused: nothing changes, and a size that is not 0 lacks room
 abbrev IfRefused : State → ℕ → Result → Type 0
-IfRefused s payload r = (k : ℕ) → r.answer ≡ Refused k → (r.state ≡ s) × (payload ≢ 0 → k ≡ no_room)
+IfRefused s payload r = (k : Refusal) → r.answer ≡ Err k → (r.state ≡ s) × (payload ≢ 0 → k ≡ NoRoom)
 
 granted-not : (s : State) (payload q : ℕ) (s' : State) → IfRefused s payload (granted q s')
 granted-not s payload q s' k e = absurd (let z : ◌≡◌ {A = ℕ} 0 1 = cc in omega arith)
@@ -71,8 +72,8 @@ if-refused s payload =
       from-low-end = λ l r. granted-not s payload _ _;
     })
 
-pub take-refused : (s : State) (payload k : ℕ) → (take s payload).answer ≡ Refused k → (take s payload).state ≡ s
+pub take-refused : (s : State) (payload : ℕ) (k : Refusal) → (take s payload).answer ≡ Err k → (take s payload).state ≡ s
 take-refused s payload k e = (if-refused s payload k e).0
 
-pub take-refused-for-room : (s : State) (payload k : ℕ) → payload ≢ 0 → (take s payload).answer ≡ Refused k → k ≡ no_room
+pub take-refused-for-room : (s : State) (payload : ℕ) (k : Refusal) → payload ≢ 0 → (take s payload).answer ≡ Err k → k ≡ NoRoom
 take-refused-for-room s payload k n e = (if-refused s payload k e).1 n

@@ -16,8 +16,6 @@ use Rattle.paper.proofs.runs.Places.{first-in-high, used-in-low}
 use Rattle.paper.proofs.runs.Replaced.{replaced-starts, replaced-total}
 use Rattle.paper.proofs.runs.Splitting.{starts-append, starts-cons}
 use Rattle.paper.proofs.runs.Walk.{In, in-sized, total-append}
-use Rattle.paper.specs.declared.Answer.{Answer}
-use Rattle.paper.specs.declared.Answer.TheVariants.{Done, Refused}
 use Rattle.paper.specs.Bins.{first, used}
 use Rattle.paper.specs.Blocks.{Block, State, block, free, held, total}
 use Rattle.paper.specs.Granting.{E, R, Result, carry_out, cut_high, cut_low, granted, refused, take, take_first, take_part, take_whole}
@@ -25,12 +23,15 @@ use Rattle.paper.specs.Layout.{blocks_at, large}
 use Rattle.paper.specs.Runs.{held_size, replace, starts_at}
 use Rattle.paper.specs.Sound.{Sized, WellFormed}
 use Rattle.words.specs.Choice.{by<, by=, if<-no, if<-yes, if=, if=-no, if=-yes}
+use Rattle.std.specs.declared.result.Result.TheVariants.{Ok, Err}
+use Rattle.paper.specs.Answers.{Answer}
+use Rattle.paper.specs.declared.Refusal.{Refusal}
 
 -- what a grant of b bytes adds, if it is one: the block that starts 4 below what is answered
 abbrev Adds : State → ℕ → Result → Type 0
-Adds s b r = (o : ℕ) → r.answer ≡ Done o → WellFormed r.state → Released r.state s (o - 4) b
+Adds s b r = (o : ℕ) → r.answer ≡ Ok o → WellFormed r.state → Released r.state s (o - 4) b
 
-refused-adds : (s : State) (b k : ℕ) → Adds s b (refused k s)
+refused-adds : (s : State) (b : ℕ) (k : Refusal) → Adds s b (refused k s)
 refused-adds s b k o e w = absurd (let z : ◌≡◌ {A = ℕ} 0 1 = cc in omega arith)
 
 granted-adds : (s : State) (b a : ℕ) (s' : State) → (WellFormed s' → Released s' s a b) → Adds s b (granted a s')
@@ -154,7 +155,7 @@ take-adds s W payload =
 
 -- ---- any payload
 
-module _ (s : State) (W : WellFormed s) (payload o : ℕ) (e : (take s payload).answer ≡ Done o) where
+module _ (s : State) (W : WellFormed s) (payload o : ℕ) (e : (take s payload).answer ≡ Ok o) where
   released : Released (take s payload).state s (o - 4) (block_size payload)
   released = take-adds s W payload o e (take-well-formed s W payload)
 
@@ -189,6 +190,6 @@ pub take-keeps-held : (s : State) → WellFormed s → (payload x : ℕ) → 1 �
 take-keeps-held s W payload x h = go (take s payload).answer refl
   where
     go : (a : Answer) → (take s payload).answer ≡ a → held_at (take s payload).state x ≡ held_at s x
-    go (Done o) e =
+    go (Ok o) e =
         by= x o (λ d. absurd (omega (arith, ap (held_at s) d, take-was-none s W payload o e))) (λ d. take-then-others s W payload o e x d)
-    go (Refused k) e = ap (λ (t : State). held_at t x) (take-refused s payload k e)
+    go (Err k) e = ap (λ (t : State). held_at t x) (take-refused s payload k e)

@@ -9,7 +9,6 @@ use native.Mathlib.Omega.{arith}
 use Rattle.paper.proofs.runs.HeldPlaces.{held_at}
 use Rattle.paper.proofs.runs.Splitting.{starts-below}
 use Rattle.paper.proofs.runs.Walk.{In, in-low}
-use Rattle.paper.specs.Answers.{not_held}
 use Rattle.paper.specs.Blocks.{Block, Kind, State, block, blocks, free, held, remainder, size, total}
 use Rattle.paper.specs.declared.Found.{Found}
 use Rattle.paper.specs.Governed.{flag_above}
@@ -18,6 +17,8 @@ use Rattle.paper.specs.LookingUp.{block_at, by_offset, found, look_up}
 use Rattle.paper.specs.Runs.{held_size, starts_at}
 use Rattle.paper.specs.Sound.{Sized}
 use Rattle.words.specs.Choice.{by<, by=, if<, if<-no, if<-yes, if=, if=-no, if=-yes}
+use Rattle.paper.specs.declared.Refusal.TheVariants.{NotHeld}
+use Rattle.paper.specs.declared.Refusal.{Refusal}
 
 -- ---- every block is found, at each of its addresses
 
@@ -41,13 +42,13 @@ look_up-in s q z k P a h l m =
 
 -- ---- the held block of an offset
 
-module _ {A : Type 0} (offset : ℕ) (f : ℕ → A) (g : ℕ → ℕ → A) where
+module _ {A : Type 0} (offset : ℕ) (f : Refusal → A) (g : ℕ → ℕ → A) where
   -- refused, or done with a held block of size z that starts 4 below
   abbrev pub on : ℕ → A
-  on z = if= z 0 (f not_held) (g (offset - 4) z)
+  on z = if= z 0 (f NotHeld) (g (offset - 4) z)
 
   -- no held block starts there
-  none : (z : ℕ) → z ≡ 0 → f not_held ≡ on z
+  none : (z : ℕ) → z ≡ 0 → f NotHeld ≡ on z
   none z e = sym (if=-yes z 0 _ _ e)
 
   module _ (xs : List Block) (p z : ℕ) (four : 4 ≤ offset) (big : 8 ≤ z) (inside : offset < p + z) where
@@ -93,7 +94,7 @@ module _ {A : Type 0} (offset : ℕ) (f : ℕ → A) (g : ℕ → ℕ → A) whe
           by< offset 4 (λ m. if<-yes offset 4 _ _ m)
           (λ m. if<-no offset 4 _ _ m ∙ starts-below held_size (blocks s) blocks_at (offset - 4) (omega arith))
 
-  pub look_up-none : (s : State) → Sized (blocks s) → held_at s offset ≡ 0 → by_offset (look_up s offset) offset f g ≡ f not_held
+  pub look_up-none : (s : State) → Sized (blocks s) → held_at s offset ≡ 0 → by_offset (look_up s offset) offset f g ≡ f NotHeld
   look_up-none s S e = by-held s S ∙ if=-yes (held_at s offset) 0 _ _ e
 
   pub look_up-held : (s : State) → Sized (blocks s) → held_at s offset ≢ 0 → by_offset (look_up s offset) offset f g ≡ g (offset - 4) (held_at s offset)

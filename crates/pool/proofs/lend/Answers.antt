@@ -4,4 +4,4 @@ use Rattle.pool.proofs.Lent.{lent-part}
 use Rattle.pool.proofs.lend.Goals as goal
 
 pub returns : goal.returns
-returns c = lent-part _ _ _ _ c.bounds-s.ensures refl refl
+returns c = lent-part _ _ _ _ c.bounds-part.ensures refl refl

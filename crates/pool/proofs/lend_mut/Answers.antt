@@ -4,4 +4,4 @@ use Rattle.pool.proofs.Lent.{lent-mut-part}
 use Rattle.pool.proofs.lend_mut.Goals as goal
 
 pub returns : goal.returns
-returns c = lent-mut-part _ _ _ _ c.bounds-s.ensures refl refl
+returns c = lent-mut-part _ _ _ _ c.bounds-part.ensures refl refl

@@ -1,17 +1,18 @@
 -- serving::ask meets its contract, by what is held there.
+use borrow.Author.Rules.{rules}
 use Rattle.serving.specs.Models as model
 use Rattle.serving.proofs.ask.Goals as goal
 
-pub returns-in_default : goal.returns-in_default
+pub returns-in_err-z : goal.returns-in_err-z
 unfolding model.ask
-returns-in_default c = rw (← c.look_up.ensures, ← c.held_there-found.ensures, c.in_default.is)
+returns-in_err-z c = rw (← c.look_up.ensures, ← c.held_there.ensures, c.in_err-z.was) (search rules)
 
 pub returns : goal.returns
 unfolding model.ask
 returns c =
     rw (
       ← c.look_up.ensures,
-      ← c.held_there-found.ensures,
-      c.in-Done.is,
+      ← c.held_there.ensures,
+      c.in_ok-z.was,
       c.minus.ensures,
     )

@@ -1,16 +1,16 @@
 -- serving::held_there meets its contract, by the block that was found.
 use mathlib.Core.Path.{◌≡◌, refl}
 use Prim.Native.Nat.{ℕ}
-use Rattle.paper.specs.declared.Answer.TheVariants.{Refused}
 use Rattle.paper.specs.declared.Found.{Found}
 use Rattle.paper.specs.declared.Found.TheVariants.{Held, Free, Remainder, Nothing}
-use Rattle.paper.specs.Answers.{not_held}
 use Rattle.serving.specs.Models as model
 use Rattle.words.specs.Choice.{if=-yes, if=-no}
 use Rattle.serving.proofs.held_there.Goals as goal
+use Rattle.std.specs.declared.result.Result.TheVariants.{Err}
+use Rattle.paper.specs.declared.Refusal.TheVariants.{NotHeld}
 
 -- any other block than a held one, or none
-other : (x : Found) (offset : ℕ) → ((q z : ℕ) → x ≡ Held q z → ⊥) → Refused not_held ≡ model.held_there x offset
+other : (x : Found) (offset : ℕ) → ((q z : ℕ) → x ≡ Held q z → ⊥) → Err NotHeld ≡ model.held_there x offset
 unfolding model.held_there
 other (Held q z) offset n = absurd (n q z refl)
 other (Free q z) offset n = refl

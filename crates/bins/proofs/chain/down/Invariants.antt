@@ -4,6 +4,3 @@ use Rattle.bins.proofs.chain.down.Given as goal
 
 abbrev pub invariant-loop-level : goal.invariant-loop-level
 invariant-loop-level l = Descending l.pool l.initial.at l.to l.least l.level l.at
-
-abbrev pub decreases-loop-level : goal.decreases-loop-level
-decreases-loop-level l = l.level

@@ -4,4 +4,4 @@ use Rattle.bins.proofs.chain.search.Goals as goal
 
 pub returns : goal.returns
 unfolding search-of
-returns c = rw (c.down.ensures, c.along-at.ensures)
+returns c = rw (c.down.ensures, c.along-at.ensures, c.bare.ensures)

@@ -4,4 +4,4 @@ use Rattle.bins.proofs.chain.size_of.Goals as goal
 
 pub returns : goal.returns
 unfolding size_at
-returns c = rw (c.apart.ensures, c.get32.ensures)
+returns c = rw (c.from.ensures, c.get.ensures)

@@ -4,4 +4,4 @@ use Rattle.bins.proofs.entering.make_free.Goals as goal
 
 pub returns : goal.returns
 unfolding make_free
-returns c = rw (c.put32-2.ensures, c.put32.ensures, c.minus-foot.ensures, c.plus.ensures, c.free_head-head.ensures)
+returns c = rw (c.put-2.ensures, c.put.ensures, c.minus-foot.ensures, c.plus.ensures, c.free_head-head.ensures)

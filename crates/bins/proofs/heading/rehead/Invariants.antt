@@ -4,6 +4,3 @@ use Rattle.bins.proofs.heading.rehead.Given as goal
 
 abbrev pub invariant-loop-level : goal.invariant-loop-level
 invariant-loop-level l = Reheading l.initial.pool l.initial.level l.initial.before l.size l.old l.new l.pool l.level l.before
-
-abbrev pub decreases-loop-level : goal.decreases-loop-level
-decreases-loop-level l = l.level

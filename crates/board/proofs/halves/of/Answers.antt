@@ -3,8 +3,8 @@ use native.Mathlib.Omega.{arith}
 use Rattle.board.proofs.Told.{done-halves, refused-halves}
 use Rattle.board.proofs.halves.of.Goals as goal
 
-pub returns-in-Done : goal.returns-in-Done
-returns-in-Done c = rw c.in-Done.is (done-halves _ (omega arith))
+pub returns-in-Ok : goal.returns-in-Ok
+returns-in-Ok c = rw c.in-Ok.is (done-halves _ (omega arith))
 
-pub returns-in-Refused : goal.returns-in-Refused
-returns-in-Refused c = rw c.in-Refused.is (refused-halves _)
+pub returns-in-Err : goal.returns-in-Err
+returns-in-Err c = rw c.in-Err.is (refused-halves _ _ c.from.ensures)

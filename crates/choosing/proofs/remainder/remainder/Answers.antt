@@ -4,4 +4,4 @@ use Rattle.choosing.proofs.remainder.remainder.Goals as goal
 
 pub returns : goal.returns
 unfolding remainder
-returns c = rw (c.minus.ensures, c.get32-end.ensures, c.get32-start.ensures)
+returns c = rw (c.minus.ensures, c.get-end.ensures, c.get-start.ensures)

@@ -6,10 +6,10 @@ pub returns : goal.returns
 unfolding join_rest
 returns c =
     rw (
-      c.put32-2.ensures,
+      c.put-2.ensures,
       c.free_head.ensures,
       c.minus.ensures,
-      c.put32.ensures,
-      c.get32-end.ensures,
+      c.put.ensures,
+      c.get-end.ensures,
       c.leave_below.ensures,
     )

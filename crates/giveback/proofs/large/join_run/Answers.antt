@@ -7,11 +7,11 @@ pub returns-then-above : goal.returns-then-above
 unfolding join_run
 returns-then-above c =
     rw (
-      ← c.get32-word.ensures,
-      ← c.apart-above.ensures,
+      ← c.get-word.ensures,
+      ← c.from-above.ensures,
       when-yes _ _ _ c.if-above.true,
       c.settle.ensures,
-      c.put32.ensures,
+      c.put.ensures,
       c.with_p.ensures,
       c.leave_below.ensures,
     )
@@ -20,8 +20,8 @@ pub returns-then-start-q : goal.returns-then-start-q
 unfolding join_run
 returns-then-start-q c =
     rw (
-      ← c.get32-word.ensures,
-      ← c.apart-above.ensures,
+      ← c.get-word.ensures,
+      ← c.from-above.ensures,
       when-no _ _ _ c.if-above.false,
       if=-yes _ _ _ _ c.if-start-q.true,
     ) (cc)
@@ -30,8 +30,8 @@ pub returns : goal.returns
 unfolding join_run
 returns c =
     rw (
-      ← c.get32-word.ensures,
-      ← c.apart-above.ensures,
+      ← c.get-word.ensures,
+      ← c.from-above.ensures,
       when-no _ _ _ c.if-above.false,
       if=-no _ _ _ _ c.if-start-q.false,
       c.settle-2.ensures,

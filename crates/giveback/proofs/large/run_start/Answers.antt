@@ -5,17 +5,17 @@ use Rattle.giveback.proofs.large.run_start.Goals as goal
 
 pub returns-then-head : goal.returns-then-head
 unfolding run_start
-returns-then-head c = rw (← c.get32.ensures, ← c.apart-head.ensures, when-yes _ _ _ c.if-head.true)
+returns-then-head c = rw (← c.get.ensures, ← c.from-head.ensures, when-yes _ _ _ c.if-head.true)
 
 pub returns : goal.returns
 unfolding run_start
 returns c =
     rw (
-      ← c.get32.ensures,
-      ← c.apart-head.ensures,
+      ← c.get.ensures,
+      ← c.from-head.ensures,
       when-no _ _ _ c.if-head.false,
       c.minus-2.ensures,
-      c.apart.ensures,
-      c.get32-foot.ensures,
+      c.from.ensures,
+      c.get-foot.ensures,
       c.minus.ensures,
     )

@@ -4,4 +4,4 @@ use Rattle.giveback.proofs.small.at_front.Goals as goal
 
 pub returns : goal.returns
 unfolding at_front
-returns c = rw (c.put_field-2.ensures, c.put_field.ensures, c.put32.ensures, c.free_head.ensures, c.field-first.ensures)
+returns c = rw (c.put_field-2.ensures, c.put_field.ensures, c.put.ensures, c.free_head.ensures, c.field-first.ensures)

@@ -4,4 +4,4 @@ use Rattle.grant.proofs.granted.granted.Goals as goal
 
 pub returns : goal.returns
 unfolding granted spent
-returns c = rw (c.plus.ensures, c.put32.ensures, c.minus.ensures, c.get32-free.ensures)
+returns c = rw (c.plus.ensures, c.put.ensures, c.minus.ensures, c.get-free.ensures)

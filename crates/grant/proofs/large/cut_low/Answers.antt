@@ -7,10 +7,10 @@ unfolding cut_low
 returns c =
     rw (
       ← c.granted.ensures,
-      c.put32-3.ensures,
-      c.put32-2.ensures,
+      c.put-3.ensures,
+      c.put-2.ensures,
       c.held_head.ensures,
-      c.put32.ensures,
+      c.put.ensures,
       c.free_head-head.ensures,
       c.minus.ensures,
       c.plus-above.ensures,

@@ -6,10 +6,10 @@ pub returns : goal.returns
 unfolding hold
 returns c =
     rw (
-      c.put32-2.ensures,
+      c.put-2.ensures,
       c.with_p.ensures,
-      c.get32-head.ensures,
-      c.put32.ensures,
+      c.get-head.ensures,
+      c.put.ensures,
       c.held_head.ensures,
       c.plus-above.ensures,
     )

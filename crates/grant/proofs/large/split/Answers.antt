@@ -4,4 +4,4 @@ use Rattle.grant.proofs.large.split.Goals as goal
 
 pub returns : goal.returns
 unfolding split
-returns c = rw (c.enter.ensures, c.put32.ensures, c.held_head.ensures, c.minus-size.ensures, c.plus-rest.ensures)
+returns c = rw (c.enter.ensures, c.put.ensures, c.held_head.ensures, c.minus-size.ensures, c.plus-rest.ensures)

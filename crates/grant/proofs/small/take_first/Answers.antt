@@ -4,4 +4,4 @@ use Rattle.grant.proofs.small.take_first.Goals as goal
 
 pub returns : goal.returns
 unfolding take_first
-returns c = rw (← c.granted.ensures, c.put32.ensures, c.held_head.ensures, c.put_field.ensures, c.field-next.ensures)
+returns c = rw (← c.granted.ensures, c.put.ensures, c.held_head.ensures, c.put_field.ensures, c.field-next.ensures)

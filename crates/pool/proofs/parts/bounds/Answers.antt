@@ -7,4 +7,4 @@ pub returns-in_default : goal.returns-in_default
 returns-in_default c = bounds-refused _ _ _ (sym c.ask.ensures ∙ c.in_default.is)
 
 pub returns : goal.returns
-returns c = bounds-held _ _ _ (sym c.ask.ensures ∙ c.in-Done.is)
+returns c = bounds-held _ _ _ (sym c.ask.ensures ∙ c.in-Ok.is)

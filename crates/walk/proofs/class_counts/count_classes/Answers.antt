@@ -9,7 +9,7 @@ returns c =
       c.count_run.ensures,
       c.pool_end.ensures,
       c.count_run-low.ensures,
-      c.get32-end.ensures,
-      c.get32-start.ensures,
-      c.clear.ensures,
+      c.get-end.ensures,
+      c.get-start.ensures,
+      c.fill.ensures.after (λ y e. e),
     )

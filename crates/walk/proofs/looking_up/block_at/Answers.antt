@@ -1,27 +1,16 @@
 -- walk::block_at meets its contract: the walk from head to head.
-use Rattle.heads.specs.Heads.{head_of}
-use Rattle.walk.proofs.Looking.{begins, stuck, inside, goes_on}
-use mathlib.Core.Path.{sym, ◌∙◌, ap}
-use native.Mathlib.Omega.{arith}
+use Rattle.walk.proofs.Looking.{sets_out, finds_none, finds, looks_on}
+use mathlib.Core.Path.{sym, ◌∙◌}
 use Rattle.walk.proofs.looking_up.block_at.Goals as goal
 
-pub loop-head-init : goal.loop-head-init
-loop-head-init c = begins _ _ _ (omega arith)
+pub loop-block-init : goal.loop-block-init
+loop-block-init c = sets_out c.up_to-block-items.ensures c.into_iter-block-iterator.ensures.into_iter_gives
 
-pub returns-then-head-eq0 : goal.returns-then-head-eq0
-returns-then-head-eq0 c =
-    sym (stuck c.loop-head.invariant c.apart-head.result
-    (c.apart-head.ensures ∙ ap head_of c.get32.ensures) c.if-head-eq0.true)
+pub returns-then-address-block : goal.returns-then-address-block
+returns-then-address-block c = c.found_at.ensures ∙ sym (finds c.loop-block.invariant c.in-Some.ensures.steps c.if-address-block.true)
 
-pub returns-then-to-next : goal.returns-then-to-next
-returns-then-to-next c =
-    c.found_at.ensures
-    ∙ sym (inside c.loop-head.invariant c.apart-head.result
-    (c.apart-head.ensures ∙ ap head_of c.get32.ensures)
-    c.if-head-eq0.false c.if-to-next.true)
+pub loop-block-preserved : goal.loop-block-preserved
+loop-block-preserved c = looks_on c.loop-block.invariant c.in-Some.ensures.steps c.if-address-block.false
 
-pub loop-head-preserved : goal.loop-head-preserved
-loop-head-preserved c =
-    goes_on c.loop-head.invariant c.apart-head.result
-    (c.apart-head.ensures ∙ ap head_of c.get32.ensures)
-    c.if-head-eq0.false c.if-to-next.false (omega arith)
+pub returns : goal.returns
+returns c = sym (finds_none c.loop-block.invariant c.in-None.ensures.steps)

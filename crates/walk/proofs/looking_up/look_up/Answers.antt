@@ -12,7 +12,7 @@ unfolding model.look_up
 returns-then-address-start c =
     rw (
       if<-no _ _ _ _ c.if-address-lt-BLOCKS.false,
-      ← c.get32-start.ensures,
+      ← c.get-start.ensures,
       if<-yes _ _ _ _ c.if-address-start.true,
     ) c.block_at.ensures
 
@@ -21,9 +21,9 @@ unfolding model.look_up
 returns-then-address-end c =
     rw (
       if<-no _ _ _ _ c.if-address-lt-BLOCKS.false,
-      ← c.get32-start.ensures,
+      ← c.get-start.ensures,
       if<-no _ _ _ _ c.if-address-start.false,
-      ← c.get32-end.ensures,
+      ← c.get-end.ensures,
       if<-yes _ _ _ _ c.if-address-end.true,
       c.minus.ensures,
     )
@@ -33,8 +33,8 @@ unfolding model.look_up
 returns c =
     rw (
       if<-no _ _ _ _ c.if-address-lt-BLOCKS.false,
-      ← c.get32-start.ensures,
+      ← c.get-start.ensures,
       if<-no _ _ _ _ c.if-address-start.false,
-      ← c.get32-end.ensures,
+      ← c.get-end.ensures,
       if<-no _ _ _ _ c.if-address-end.false,
     ) c.block_at-2.ensures

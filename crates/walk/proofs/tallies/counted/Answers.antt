@@ -14,7 +14,7 @@ returns-then-head-lt-LARGE c =
       when-no _ _ _ c.if-head.false,
       if<-yes _ _ _ _ c.if-head-lt-LARGE.true,
       c.plus-then-head-lt-LARGE.ensures,
-      c.greater.ensures,
+      c.max.ensures,
     )
 
 pub returns : goal.returns
@@ -24,5 +24,5 @@ returns c =
       when-no _ _ _ c.if-head.false,
       if<-no _ _ _ _ c.if-head-lt-LARGE.false,
       c.plus-2.ensures,
-      c.greater.ensures,
+      c.max.ensures,
     )

@@ -7,12 +7,12 @@ unfolding tally closed bare
 returns c =
     rw (
       c.payload_of.ensures,
-      c.get32.ensures,
+      c.get.ensures,
       c.tally_run-all.ensures,
       c.pool_end.ensures,
       c.tally_run-low.ensures,
       c.minus.ensures,
       c.minus-remainder.ensures,
-      c.get32-end.ensures,
-      c.get32-start.ensures,
+      c.get-end.ensures,
+      c.get-start.ensures,
     )

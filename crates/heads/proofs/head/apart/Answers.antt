@@ -1,6 +1,0 @@
--- heads::apart meets its contract: shifts and masks take the head apart.
-use Rattle.heads.proofs.HeadLaws.{split}
-use Rattle.heads.proofs.head.apart.Goals as goal
-
-pub returns : goal.returns
-returns c = split _

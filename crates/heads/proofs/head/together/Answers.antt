@@ -1,6 +1,0 @@
--- heads::together meets its contract: shifts and ors put the head together.
-use Rattle.heads.proofs.HeadLaws.{made}
-use Rattle.heads.proofs.head.together.Goals as goal
-
-pub returns : goal.returns
-returns c = made _

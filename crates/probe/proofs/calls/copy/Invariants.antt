@@ -1,9 +1,0 @@
--- probe::copy is safe and ends: the place is within what is copied.
-use Rattle.std.proofs.Common.{length, ◌-◌, ◌≤◌}
-use Rattle.probe.proofs.calls.copy.Given as goal
-
-abbrev pub invariant-loop-i : goal.invariant-loop-i
-invariant-loop-i l = l.i ≤ length l.from
-
-abbrev pub decreases-loop-i : goal.decreases-loop-i
-decreases-loop-i l = length l.from - l.i
