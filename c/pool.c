@@ -2060,7 +2060,7 @@ static inline uint32_t grant_cut_low(unsigned char *pool, size_t pool_len, choos
 }
 
 // What was chosen is done, on the pool that it was chosen for; answers where the payload starts.
-static inline uint32_t grant_carry_out(unsigned char *pool, size_t pool_len, choosing_Choice choice)
+static inline uint32_t grant_carry(unsigned char *pool, size_t pool_len, choosing_Choice choice)
 {
     if (choice.tag == CHOOSING_CHOICE_FIRST_OF_BIN) {
         uint32_t q = choice.as.FirstOfBin.f0;
@@ -2085,15 +2085,21 @@ static inline uint32_t grant_carry_out(unsigned char *pool, size_t pool_len, cho
     }
 }
 
-// Grants a block for a payload of s bytes; answers where the payload starts.
-static inline Result_u32_Refusal grant_take(unsigned char *pool, size_t pool_len, uint32_t s)
+// The same of a choice or the refusal in its place, which is handed on, and nothing is done.
+static inline Result_u32_Refusal grant_carry_out(unsigned char *pool, size_t pool_len, Result_Choice_Refusal choice)
 {
-    Result_Choice_Refusal value = choosing_choose(pool, pool_len, s);
+    Result_Choice_Refusal value = choice;
     if (value.tag != RESULT_CHOICE_REFUSAL_OK) {
         return Result_u32_Refusal_Err(value.as.Err);
     }
-    choosing_Choice choice = value.as.Ok;
-    return Result_u32_Refusal_Ok(grant_carry_out(pool, pool_len, choice));
+    return Result_u32_Refusal_Ok(grant_carry(pool, pool_len, value.as.Ok));
+}
+
+// Grants a block for a payload of s bytes; answers where the payload starts.
+static inline Result_u32_Refusal grant_take(unsigned char *pool, size_t pool_len, uint32_t s)
+{
+    Result_Choice_Refusal choice = choosing_choose(pool, pool_len, s);
+    return grant_carry_out(pool, pool_len, choice);
 }
 
 // ---- walk: along the blocks: looking an offset up, the figures, the class count
@@ -2637,13 +2643,15 @@ static inline Result_void_Refusal convert_check(const unsigned char *pool, size_
     }
     uint32_t named = value.as.Some;
     Result_void_Refusal value2 = reading_check(pool, pool_len);
-    if (value2.tag != RESULT_VOID_REFUSAL_OK) {
-        return Result_void_Refusal_Err(value2.as.Err);
+    if (value2.tag == RESULT_VOID_REFUSAL_ERR) {
+        paper_Refusal why = value2.as.Err;
+        return Result_void_Refusal_Err(why);
+    } else {
+        if (levels_top(pool, pool_len) != named) {
+            return Result_void_Refusal_Err(paper_Refusal_OtherLayout());
+        }
+        return Result_void_Refusal_Ok();
     }
-    if (levels_top(pool, pool_len) != named) {
-        return Result_void_Refusal_Err(paper_Refusal_OtherLayout());
-    }
-    return Result_void_Refusal_Ok();
 }
 
 // How high the index of the other layout is.
@@ -3054,7 +3062,7 @@ static inline int asking_all_held(const unsigned char *pool, size_t pool_len, co
 
 // ---- pool: the public calls
 
-// The number at a place; 0 past the end.
+// The number at a place; 0 past the end, as the call that asks about the list is defined (`ask_all_call`).
 static inline uint32_t pool_number_at(const uint32_t *list, size_t list_len, uint32_t place)
 {
     return core_Option_unwrap_or_u32(core_Option_copied_u32(core_UsizeSliceIndexRefSlice_pick_u32((uint64_t)place, list, list_len)), 0u);

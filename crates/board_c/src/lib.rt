@@ -1,4 +1,5 @@
-// The public calls for C under their C names: each is the function of the crate board, and promises what that one does. The archive is made of
+// The public calls for C under their C names: each is the function of the crate board, and promises what that one does. (Two crates, since one is a library
+// or an archive for C, and board is what others stand on.) The archive is made of
 // this crate (tools/library). A slice is a pointer and a length in C, and a bank a pointer to its first number (include/pool.h, include/bank.h).
 #![tactic(auto)]
 

@@ -29,11 +29,11 @@ fn check(pool: &[u8], old: u32) -> Result<(), Refusal>
     let Some(named) = laying::top_of(old) else {
         return Err(Refusal::NoLayout);
     };
-    reading::check(pool)?;
-    if levels::top(pool) != named {
-        return Err(Refusal::OtherLayout);
+    match reading::check(pool) {
+        Err(why) => Err(why),
+        Ok(()) if levels::top(pool) != named => Err(Refusal::OtherLayout),
+        Ok(()) => Ok(()),
     }
-    Ok(())
 }
 
 // Moves the pool from the layout `old` to the other one; answers its length.

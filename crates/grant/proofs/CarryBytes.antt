@@ -11,7 +11,7 @@ use Rattle.grant.proofs.SmallBytes.{cut_high-bytes, take_first-bytes}
 use Rattle.grant.proofs.WholeBytes.{take_whole-bytes}
 use Rattle.grant.specs.Large.{cut_low}
 use Rattle.grant.specs.Small.{cut_high}
-use Rattle.grant.specs.Take.{carried_out, carry_out as carry_out-model}
+use Rattle.grant.specs.Take.{carry, carry_out as carry_out-model}
 use Rattle.choosing.specs.declared.Choice.{Choice}
 use Rattle.choosing.specs.declared.Choice.TheVariants.{ExactBin, FirstOfBin, HighEnd, LargerBin, LowEnd}
 use Rattle.choosing.specs.declared.remainder.Rest.{Rest}
@@ -25,8 +25,8 @@ use Rattle.std.specs.declared.result.Result.{Result}
 use Rattle.paper.specs.declared.Refusal.{Refusal}
 use Rattle.paper.specs.Answers.{out}
 
-pub carry_out-bytes : (s : State) (bs : List ℕ) → Stands s bs → (c : Result Choice Refusal) → Carries s c → carried_out bs c ≡ leaves (carry_out s (said c)) bs
-unfolding carry_out-model Holds
+pub carry_out-bytes : (s : State) (bs : List ℕ) → Stands s bs → (c : Result Choice Refusal) → Carries s c → carry_out-model bs c ≡ leaves (carry_out s (said c)) bs
+unfolding carry Holds
 carry_out-bytes s bs S (Ok (FirstOfBin q b)) h = take_first-bytes s bs S b h.0 (omega (arith, h.1, h.2)) h.1 q h.3 h.4
 carry_out-bytes s bs S (Ok (HighEnd rest b)) h =
     ap (λ (r : Rest). cut_high bs r b) h.3 ∙ cut_high-bytes s bs S b h.0 (omega (arith, h.1, h.2)) h.1 h.4

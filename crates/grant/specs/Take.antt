@@ -10,17 +10,17 @@ use Rattle.std.specs.declared.result.Result.{Result}
 use Rattle.paper.specs.declared.Refusal.{Refusal}
 use Rattle.paper.specs.Answers.{out, Out}
 
-unfoldable pub carry_out : List ℕ → Choice → Out
-carry_out bs (FirstOfBin q b) = take_first bs q b
-carry_out bs (HighEnd rest b) = cut_high bs rest b
-carry_out bs (ExactBin bin b) = take_whole bs bin b
-carry_out bs (LargerBin bin b) = take_part bs bin b
-carry_out bs (LowEnd rest b) = cut_low bs rest b
+unfoldable pub carry : List ℕ → Choice → Out
+carry bs (FirstOfBin q b) = take_first bs q b
+carry bs (HighEnd rest b) = cut_high bs rest b
+carry bs (ExactBin bin b) = take_whole bs bin b
+carry bs (LargerBin bin b) = take_part bs bin b
+carry bs (LowEnd rest b) = cut_low bs rest b
 
 -- or refused, and nothing is done
-abbrev pub carried_out : List ℕ → Result Choice Refusal → Out
-carried_out bs (Ok choice) = carry_out bs choice
-carried_out bs (Err k) = out (Err k) bs
+abbrev pub carry_out : List ℕ → Result Choice Refusal → Out
+carry_out bs (Ok choice) = carry bs choice
+carry_out bs (Err k) = out (Err k) bs
 
 unfoldable pub take : List ℕ → ℕ → Out
-take bs s = carried_out bs (choose bs s)
+take bs s = carry_out bs (choose bs s)

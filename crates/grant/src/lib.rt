@@ -9,15 +9,16 @@ mod small;
 
 ghost use Rattle.std.specs.Prelude.{◌≡◌, Ok};
 ghost use Rattle.paper.specs.Answers.{out};
-ghost use Rattle.grant.specs.Take.{carry_out, take as take-of};
+ghost use Rattle.grant.specs.Take.{carry, carry_out, take as take-of};
 
 use choosing::{Choice, choose};
 use paper::Refusal;
 
 // What was chosen is done, on the pool that it was chosen for; answers where the payload starts.
-pub fn carry_out(pool: &mut [u8], choice: Choice) -> u32
-    ensures { carry_out pool.old choice ≡ out (Ok result) pool.new }
+fn carry(pool: &mut [u8], choice: Choice) -> u32
+    ensures { carry pool.old choice ≡ out (Ok result) pool.new }
 {
+    // Each case has data of its own, so no function is picked by it alone.
     match choice {
         Choice::FirstOfBin(q, b) => small::take_first(pool, q, b),
         Choice::HighEnd(rest, b) => small::cut_high(pool, rest, b),
@@ -27,10 +28,17 @@ pub fn carry_out(pool: &mut [u8], choice: Choice) -> u32
     }
 }
 
+// The same of a choice or the refusal in its place, which is handed on, and nothing is done.
+pub fn carry_out(pool: &mut [u8], choice: Result<Choice, Refusal>) -> Result<u32, Refusal>
+    ensures { carry_out pool.old choice ≡ out result pool.new }
+{
+    Ok(carry(pool, choice?))
+}
+
 // Grants a block for a payload of s bytes; answers where the payload starts.
 pub fn take(pool: &mut [u8], s: u32) -> Result<u32, Refusal>
     ensures { take-of pool.old s ≡ out result pool.new }
 {
-    let choice = choose(pool, s)?;
-    Ok(carry_out(pool, choice))
+    let choice = choose(pool, s);
+    carry_out(pool, choice)
 }

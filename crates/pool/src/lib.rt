@@ -83,6 +83,7 @@ pub fn lend(pool: &[u8], offset: u32) -> &[u8]
     &pool[part]
 }
 
+// (Two calls, since a part for reading and one for writing are two types.)
 // The payload at `offset`, for writing; the empty part at the pool's end where the call is refused. The pool is read through `&`
 // alone before the part is made, so no byte can change. The contract does not say that: the parameter goes into the result.
 pub fn lend_mut(pool: &mut [u8], offset: u32) -> &mut [u8]

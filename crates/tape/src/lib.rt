@@ -36,7 +36,7 @@ pub fn run(tape: &[u8], buffer: &mut [u8; BUFFER], out: &mut [u8; ROOM]) -> usiz
     let mut pool = RunPool { buffer, n: 0 };
     let mut at: usize = 0;
     let mut nth: u32 = 1;
-    // The place moves by what a record is long, so no range or iterator says where it goes.
+    // No iterator over the records: one that cannot be read ends the run with a line of its own, so each would be an Option to match all the same.
     while at < tape.len() {
         let Some((request, next)) = record_at(tape, at) else {
             unreadable(nth, &mut page);

@@ -9,6 +9,7 @@ use text::Page;
 pub fn serve(pool: &mut RunPool, request: Request, nth: u32, page: &mut Page)
     ensures { Stepped pool.old request nth page.old pool.new page.new }
 {
+    // Each request has data of its own and a letter, so no call is picked by it alone.
     match request {
         Request::LayOut(new) => {
             let a = pool.lay_out(new, 1);

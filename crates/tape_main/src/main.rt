@@ -1,5 +1,5 @@
 // Runs the request tape on standard input, and writes its lines to standard output.
-// One byte more than the longest tape, so that a longer one is seen to be too long.
+// There is no heap, so what is read and written has its place here. One byte more than the longest tape, so that a longer one is seen to be too long.
 #![tactic(auto)]
 
 const READ: usize = 32_769;

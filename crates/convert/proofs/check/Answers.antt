@@ -1,8 +1,6 @@
 -- convert::check meets its contract, by its tests in their order.
-use borrow.Author.Rules.{rules}
-use mathlib.Core.Path.{◌≡◌, sym, ◌∙◌}
+use mathlib.Core.Path.{sym, ◌∙◌}
 use native.Mathlib.Omega.{arith}
-use Rattle.std.specs.declared.result.Result.TheVariants.{Err}
 use Rattle.paper.proofs.reads.Allowed.{allowed-inv}
 use Rattle.convert.proofs.Outcomes.{not-refused, refused-layout, refused-length, refused-name, refused-reading}
 use Rattle.convert.proofs.check.Goals as goal
@@ -14,18 +12,17 @@ pub returns-in_default : goal.returns-in_default
 returns-in_default c =
     refused-name _ _ (λ i. omega (arith, c.type_inv.pool i)) (allowed-inv _ (sym c.allowed.ensures ∙ c.if-not-allowed.false)) c.in_default.ensures.unnamed
 
-pub returns-in_err-check : goal.returns-in_err-check
-returns-in_err-check c =
-    let e : c.from_residual.result ≡ Err c.in_err-check.field-0.0 = search rules in
+pub returns-in-Err : goal.returns-in-Err
+returns-in-Err c =
     let n = c.in-Some.ensures.named in
-    rw e (refused-reading _ _ c.check.ensures (λ z. n.1 (n.0 ∙ z)) c.in_err-check.was)
+    refused-reading _ _ c.check.ensures (λ z. n.1 (n.0 ∙ z)) c.in-Err.is
 
-pub returns-then-top-named : goal.returns-then-top-named
-returns-then-top-named c =
+pub returns-in-Ok : goal.returns-in-Ok
+returns-in-Ok c =
     let n = c.in-Some.ensures.named in
-    refused-layout _ _ c.check.ensures (λ z. n.1 (n.0 ∙ z)) c.in_ok-check.was c.top.ensures (λ e. c.if-top-named.true (e ∙ sym n.0))
+    refused-layout _ _ c.check.ensures (λ z. n.1 (n.0 ∙ z)) c.in-Ok.is c.top.ensures (λ e. c.if-top-named.true (e ∙ sym n.0))
 
-pub returns : goal.returns
-returns c =
+pub returns-in-Ok-2 : goal.returns-in-Ok-2
+returns-in-Ok-2 c =
     let n = c.in-Some.ensures.named in
-    not-refused _ _ c.check.ensures (λ z. n.1 (n.0 ∙ z)) c.in_ok-check.was c.top.ensures (c.if-top-named.false ∙ n.0)
+    not-refused _ _ c.check.ensures (λ z. n.1 (n.0 ∙ z)) c.in-Ok-2.is c.top.ensures (c.if-top-named.false ∙ n.0)
