@@ -19,6 +19,13 @@
 #include <stddef.h>
 #include <stdint.h>
 
+// Not to be written into its caller, whose call before it needs the most stack.
+#if defined(__GNUC__)
+#define APART __attribute__((noinline))
+#else
+#define APART
+#endif
+
 #define WORDS_U32_WIDTH 4u
 #define WORDS_U64_WIDTH 8u
 #define HEADS_HELD_ABOVE_FREE 1u
@@ -646,6 +653,24 @@ static inline uint32_t trailing_zeros(uint32_t x)
 
 // ---- core: the kit that the crates are written with
 
+// `core::int::u32::cast_signed` of the kit's own library.
+static inline uint32_t core_u32_cast_signed(uint32_t a)
+{
+    if (a <= 2147483647u) {
+        return a;
+    }
+    return (uint32_t)~(0xffffffffu - a);
+}
+
+// `core::int::i32::cast_unsigned` of the kit's own library.
+static inline uint32_t core_i32_cast_unsigned(uint32_t a)
+{
+    if ((a ^ 0x80000000u) < (0u ^ 0x80000000u)) {
+        return 0xffffffffu - (uint32_t)~a;
+    }
+    return a;
+}
+
 // `core::int::u32::min` of the kit's own library.
 static inline uint32_t core_u32_min(uint32_t a, uint32_t b)
 {
@@ -684,23 +709,29 @@ static inline uint32_t core_u32_saturating_sub(uint32_t a, uint32_t b)
 
 // ---- words: little-endian words in a list of bytes, the laws once over the width; parts of such a list
 
+// Whether a word of this width at `at` is wholly in the bytes. The first difference is the same for every read of a pool, so a read costs one test.
+static inline int words_is_within(const unsigned char *s, size_t s_len, uint64_t at, uint64_t width)
+{
+    (void)s;
+    uint64_t n = s_len;
+    if (n < width) {
+        return 0;
+    }
+    return at <= n - width;
+}
+
 static inline uint32_t words_u32_read(const unsigned char *s, size_t s_len, uint64_t at)
 {
-    (void)s_len;
+    if (!words_is_within(s, s_len, at, WORDS_U32_WIDTH)) {
+        return 0u;
+    }
     const unsigned char *s_at = s + at;
     return (uint32_t)s_at[0u] + ((uint32_t)s_at[1u] << 8) + ((uint32_t)s_at[2u] << 16) + ((uint32_t)s_at[3u] << 24);
 }
 
-// The word at `at`. The first difference is the same for every read of a pool, so a read costs one test.
+// The word at `at`, of the width that is asked for.
 static inline uint32_t words_get_u32(const unsigned char *s, size_t s_len, uint64_t at)
 {
-    uint64_t n = s_len;
-    if (n < WORDS_U32_WIDTH) {
-        return 0u;
-    }
-    if (n - WORDS_U32_WIDTH < at) {
-        return 0u;
-    }
     return words_u32_read(s, s_len, at);
 }
 
@@ -710,19 +741,21 @@ static inline uint32_t words_field(const unsigned char *s, size_t s_len, uint32_
     return words_get_u32(s, s_len, (uint64_t)at + (uint64_t)offset);
 }
 
-static inline uint32_t words_plus(uint32_t a, uint32_t b)
-{
-    return (uint32_t)(a + b);
-}
-
 static inline uint32_t words_minus(uint32_t a, uint32_t b)
 {
     return (uint32_t)(a - b);
 }
 
+static inline uint32_t words_plus(uint32_t a, uint32_t b)
+{
+    return (uint32_t)(a + b);
+}
+
 static inline void words_u32_write(uint32_t self, unsigned char *s, size_t s_len, uint64_t at)
 {
-    (void)s_len;
+    if (!words_is_within(s, s_len, at, WORDS_U32_WIDTH)) {
+        return;
+    }
     unsigned char *s_at = s + at;
     s_at[0u] = (uint8_t)(self % 256u);
     s_at[1u] = (uint8_t)((self >> 8) % 256u);
@@ -733,13 +766,6 @@ static inline void words_u32_write(uint32_t self, unsigned char *s, size_t s_len
 // Stores the word at `at`.
 static inline void words_put_u32(unsigned char *s, size_t s_len, uint64_t at, uint32_t v)
 {
-    uint64_t n = s_len;
-    if (n < WORDS_U32_WIDTH) {
-        return;
-    }
-    if (n - WORDS_U32_WIDTH < at) {
-        return;
-    }
     words_u32_write(v, s, s_len, at);
 }
 
@@ -751,6 +777,9 @@ static inline void words_put_field(unsigned char *s, size_t s_len, uint32_t at, 
 
 static inline void words_u64_write(uint64_t self, unsigned char *s, size_t s_len, uint64_t at)
 {
+    if (!words_is_within(s, s_len, at, WORDS_U64_WIDTH)) {
+        return;
+    }
     words_u32_write((uint32_t)(self % 0x100000000u), s, s_len, at);
     words_u32_write((uint32_t)(self >> 32), s, s_len, at + 4u);
 }
@@ -758,13 +787,6 @@ static inline void words_u64_write(uint64_t self, unsigned char *s, size_t s_len
 // Stores the word at `at`.
 static inline void words_put_u64(unsigned char *s, size_t s_len, uint64_t at, uint64_t v)
 {
-    uint64_t n = s_len;
-    if (n < WORDS_U64_WIDTH) {
-        return;
-    }
-    if (n - WORDS_U64_WIDTH < at) {
-        return;
-    }
     words_u64_write(v, s, s_len, at);
 }
 
@@ -804,7 +826,13 @@ static inline uint32_t heads_follow(uint32_t from, uint32_t word)
     if (word == 0u) {
         return 0u;
     }
-    return words_plus(from, word);
+    return (uint32_t)(from + core_i32_cast_unsigned(core_u32_cast_signed(word)));
+}
+
+// The signed distance from one start to another.
+static inline uint32_t heads_distance(uint32_t from, uint32_t to)
+{
+    return core_u32_cast_signed(words_minus(to, from));
 }
 
 // The link word from a block to another; 0 where there is none.
@@ -813,12 +841,13 @@ static inline uint32_t heads_link_word(uint32_t from, uint32_t to)
     if (to == 0u) {
         return 0u;
     }
-    return words_minus(to, from);
+    return core_i32_cast_unsigned(heads_distance(from, to));
 }
 
 static inline heads_Pair heads_both_ways(uint32_t from, uint32_t to)
 {
-    return heads_Pair_of(words_minus(to, from), words_minus(from, to));
+    uint32_t there = heads_distance(from, to);
+    return heads_Pair_of(core_i32_cast_unsigned(there), core_i32_cast_unsigned((uint32_t)(0u - there)));
 }
 
 // The same head with another P, for the block above one that changed.
@@ -1052,7 +1081,7 @@ static inline int header_zeros(const unsigned char *pool, size_t pool_len, uint3
 {
     uint32_t all = 0u;
     for (uint32_t i = 0u; i < k; i++) {
-        all = all | words_field(pool, pool_len, from, i * step);
+        all = all | words_get_u32(pool, pool_len, (uint64_t)from + (uint64_t)i * (uint64_t)step);
     }
     return all == 0u;
 }
@@ -1124,10 +1153,10 @@ static inline int runs_fits_Large(uint32_t z, uint32_t e, uint32_t p)
 static inline int runs_Large_ends(const unsigned char *pool, size_t pool_len, uint32_t w, uint32_t p)
 {
     uint32_t z = heads_size_of(w);
-    return words_field(pool, pool_len, p, z - 4u) == w;
+    return words_field(pool, pool_len, p, words_minus(z, 4u)) == w;
 }
 
-// The head w at p of a block that is not held, where the flags `due` were.
+// The head w at p of a block that is not held, of a size of its kind, where the flags `due` were.
 static inline int runs_free_ok_Large(const unsigned char *pool, size_t pool_len, uint32_t w, uint32_t due, uint32_t p)
 {
     if (due != HEADS_HELD) {
@@ -1144,15 +1173,15 @@ static inline uint32_t runs_Large_above_free(void)
     return HEADS_HELD_ABOVE_FREE;
 }
 
-// The blocks of one kind from `from` to e; `before` is what was seen before them. `due` is what the flags of a held block must be here. A free block
+// The blocks of one kind from `from` to e; n0 and sum0 are what was seen before them. `due` is what the flags of a held block must be here. A free block
 // needs them to have P, so no two free ones touch. Among small blocks each has P: there `due` is a constant, as are the bounds of a size, and this
 // loop is what an inspection mostly does.
 static inline Option_Seen runs_scan_Large(const unsigned char *pool, size_t pool_len, uint64_t *m, size_t m_len, uint32_t from,
-        uint32_t e, runs_Seen before)
+        uint32_t e, uint32_t n0, uint32_t sum0)
 {
     uint32_t p = from;
     uint32_t due = HEADS_HELD;
-    runs_Seen seen = before;
+    runs_Seen seen = runs_Seen_of((uint64_t)n0, (uint64_t)sum0);
     while (p != e) {
         uint32_t w = words_get_u32(pool, pool_len, (uint64_t)p);
         uint32_t z = heads_size_of(w);
@@ -1207,7 +1236,7 @@ static inline int runs_Small_ends(const unsigned char *_pool, size_t _pool_len, 
     return 1;
 }
 
-// The head w at p of a block that is not held, where the flags `due` were.
+// The head w at p of a block that is not held, of a size of its kind, where the flags `due` were.
 static inline int runs_free_ok_Small(const unsigned char *pool, size_t pool_len, uint32_t w, uint32_t due, uint32_t p)
 {
     if (due != HEADS_HELD) {
@@ -1224,15 +1253,15 @@ static inline uint32_t runs_Small_above_free(void)
     return HEADS_HELD;
 }
 
-// The blocks of one kind from `from` to e; `before` is what was seen before them. `due` is what the flags of a held block must be here. A free block
+// The blocks of one kind from `from` to e; n0 and sum0 are what was seen before them. `due` is what the flags of a held block must be here. A free block
 // needs them to have P, so no two free ones touch. Among small blocks each has P: there `due` is a constant, as are the bounds of a size, and this
 // loop is what an inspection mostly does.
 static inline Option_Seen runs_scan_Small(const unsigned char *pool, size_t pool_len, uint64_t *m, size_t m_len, uint32_t from,
-        uint32_t e, runs_Seen before)
+        uint32_t e, uint32_t n0, uint32_t sum0)
 {
     uint32_t p = from;
     uint32_t due = HEADS_HELD;
-    runs_Seen seen = before;
+    runs_Seen seen = runs_Seen_of((uint64_t)n0, (uint64_t)sum0);
     while (p != e) {
         uint32_t w = words_get_u32(pool, pool_len, (uint64_t)p);
         uint32_t z = heads_size_of(w);
@@ -1262,13 +1291,12 @@ static inline Option_Seen runs_scan_Small(const unsigned char *pool, size_t pool
 static inline Option_Seen runs_scan_both(const unsigned char *pool, size_t pool_len, uint64_t *m, size_t m_len, uint32_t a,
         uint32_t b, uint32_t e)
 {
-    runs_Seen none = runs_Seen_of(0u, 0u);
-    Option_Seen value = runs_scan_Large(pool, pool_len, m, m_len, PAPER_BLOCKS, a, none);
+    Option_Seen value = runs_scan_Large(pool, pool_len, m, m_len, PAPER_BLOCKS, a, 0u, 0u);
     if (value.tag != OPTION_SEEN_SOME) {
         return Option_Seen_None();
     }
     runs_Seen low = value.as.Some;
-    return runs_scan_Small(pool, pool_len, m, m_len, b, e, low);
+    return runs_scan_Small(pool, pool_len, m, m_len, b, e, (uint32_t)low.count, (uint32_t)low.sum);
 }
 
 // ---- lists: along the lists of the bins; each member loses its mark
@@ -1858,14 +1886,13 @@ static inline void moving_stand(unsigned char *pool, size_t pool_len, uint32_t l
         return;
     }
     words_put_field(pool, pool_len, f, PAPER_LEVEL, h);
-    for (uint32_t level = 2u; level <= h; level++) {
+    uint32_t level = 2u;
+    while (level < h + 1u) {
         uint64_t i = (uint64_t)(level - 2u);
         uint32_t last = lasts[i];
         words_put_field(pool, pool_len, last, levels_word(level), heads_link_word(last, f));
         lasts[i] = f;
-        if (h <= level) {
-            break;
-        }
+        level = level + 1u;
     }
 }
 
@@ -2085,8 +2112,8 @@ static inline uint32_t grant_carry(unsigned char *pool, size_t pool_len, choosin
     }
 }
 
-// The same of a choice or the refusal in its place, which is handed on, and nothing is done.
-static inline Result_u32_Refusal grant_carry_out(unsigned char *pool, size_t pool_len, Result_Choice_Refusal choice)
+// The same of a choice or the refusal in its place, of whatever kind: it is handed on, and nothing is done.
+static inline Result_u32_Refusal grant_carry_out_Refusal(unsigned char *pool, size_t pool_len, Result_Choice_Refusal choice)
 {
     Result_Choice_Refusal value = choice;
     if (value.tag != RESULT_CHOICE_REFUSAL_OK) {
@@ -2096,10 +2123,10 @@ static inline Result_u32_Refusal grant_carry_out(unsigned char *pool, size_t poo
 }
 
 // Grants a block for a payload of s bytes; answers where the payload starts.
-static inline Result_u32_Refusal grant_take(unsigned char *pool, size_t pool_len, uint32_t s)
+static APART Result_u32_Refusal grant_take(unsigned char *pool, size_t pool_len, uint32_t s)
 {
     Result_Choice_Refusal choice = choosing_choose(pool, pool_len, s);
-    return grant_carry_out(pool, pool_len, choice);
+    return grant_carry_out_Refusal(pool, pool_len, choice);
 }
 
 // ---- walk: along the blocks: looking an offset up, the figures, the class count
@@ -2263,7 +2290,7 @@ static inline uint32_t walk_payload_of(uint32_t size)
 }
 
 // The remainder gives all but the 8 bytes that it keeps; a free block is given whole.
-static inline paper_Figures walk_tally(const unsigned char *pool, size_t pool_len)
+static APART paper_Figures walk_tally(const unsigned char *pool, size_t pool_len)
 {
     uint32_t start = words_get_u32(pool, pool_len, PAPER_START);
     uint32_t end = words_get_u32(pool, pool_len, PAPER_END);
@@ -2679,7 +2706,8 @@ static inline Result_u32_Refusal convert_convert(unsigned char *pool, size_t poo
 // Answers how many blocks went home: 0 of a pool that is sound by the rule in force, and no byte of it changes.
 static inline Result_u32_Refusal bringing_bring_in(unsigned char *pool, size_t pool_len)
 {
-    Result_void_Refusal value = reading_check_by_old_rule(pool, pool_len);
+    Result_void_Refusal read = reading_check_by_old_rule(pool, pool_len);
+    Result_void_Refusal value = read;
     if (value.tag != RESULT_VOID_REFUSAL_OK) {
         return Result_u32_Refusal_Err(value.as.Err);
     }

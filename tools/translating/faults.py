@@ -126,8 +126,9 @@ fault("is of a variant", "is not")(lambda own, tag, name: Text.of(f"{tag} != {na
 fault("address", "of a copy")(lambda own, of: Text.of(f"&(__typeof__({of})[]){{{of}}}[0]", UNARY))
 fault("what a pointer leads to", "the next one")(lambda own, pointer: Text.of(f"{pointer.at(14)}[1]", 14))
 fault("struct", "fields turned round")(lambda own, name, fields: own(name, fields[1:] + fields[:1]))
-OTHER = {"Done": "Refused", "Refused": "Done", "Held": "Free", "HighEnd": "LowEnd", "LowEnd": "HighEnd", "ExactBin": "LargerBin",
-         "LargerBin": "ExactBin", "Eight": "Sixteen", "Sixteen": "ThirtyTwo", "ThirtyTwo": "Eight"}
+OTHER = {"NotAllowed": "NotSound", "NotSound": "NotAllowed", "NoSize": "NoRoom", "NoRoom": "NoSize", "NotHeld": "NoRoom", "Held": "Free",
+         "HighEnd": "LowEnd", "LowEnd": "HighEnd", "ExactBin": "LargerBin", "LargerBin": "ExactBin", "Eight": "Sixteen", "Sixteen": "ThirtyTwo",
+         "ThirtyTwo": "Eight"}
 fault("variant of an enum", "another one with the same fields")(
     lambda own, name, variants, variant, fields: own(name, variants, variants.index(OTHER[variants[variant]]), fields)
     if variants[variant] in OTHER and not name.endswith("Tally") else None)

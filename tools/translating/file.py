@@ -31,6 +31,13 @@ QUIET = ["// One member of a union is set, and maybe not the widest: gcc warns o
 LOUD = ["#if defined(__GNUC__) && !defined(__clang__)", "#pragma GCC diagnostic pop", "#endif", ""]
 
 
+# What is called after an inspection and has many locals of its own, by its path. Written into its caller, they would be on the stack while
+# that inspects: of a take 0.3 KiB more than an inspection needs, on a Cortex-M (c/cross --sizes).
+APART = {"grant::take", "walk::tallies::tally"}
+APART_LINES = ["// Not to be written into its caller, whose call before it needs the most stack.", "#if defined(__GNUC__)",
+               "#define APART __attribute__((noinline))", "#else", "#define APART", "#endif", ""]
+
+
 LIBRARY = {"core::option::Option": Type(["A value that may be absent."], ["None", "Some"]),
            "core::result::Result": Type(["A value, or why there is none."], ["Ok", "Err"])}
 
@@ -41,6 +48,8 @@ def both(ty, name):
 
 
 class File:
+    apart = APART
+
     def __init__(self, root, crates, program, fault=None):
         self.root, self.crates, self.program, self.sources = root, crates, program, Sources(root, crates.names, "board_c")
         self.fault = fault
@@ -158,6 +167,8 @@ class File:
             raise Unknown("the crate board_c exports no call")
         pool = self.reach([p for n, p in exported.items() if n.startswith("pool_")])
         every = self.reach(exported.values())
+        if not APART <= set(every):
+            raise Unknown("a function that is to stand apart is not there")
         self.names = Names(exported, every, self.sources.owners)
         first = self.part([p for p in every if p in pool])
         common = self.take_used()
@@ -166,7 +177,7 @@ class File:
         return "\n".join([
             HEADING,
             "#ifdef POOL_ALONE", '#include "pool.h"', "#else", '#include "bank.h"', "#endif",
-            "#include <stddef.h>", "#include <stdint.h>", "",
+            "#include <stddef.h>", "#include <stdint.h>", "", *APART_LINES,
             *self.declared(common), *first,
             "#ifndef POOL_ALONE", "",
             "// ---- What only the piston bank needs", "",

@@ -1,7 +1,8 @@
-"""Every function of the C file by itself, against its MIR. Almost none has a precondition, so each may be called with any bytes and numbers:
-here with pools, damaged pools and other bytes, and with numbers at the edges of their widths and of what the pool has; and as it is called
-while the exported calls run. Of a function that has one, or a method, which may, a case is left out in which it does what is not defined.
-What it must answer, and what must stand in the memory that it was lent, machine.py says, which runs the MIR itself.
+"""Every function of the C file by itself, against its MIR. None that comes of the crates has a precondition, so each may be called with any bytes
+and numbers: here with pools, damaged pools and other bytes, and with numbers at the edges of their widths and of what the pool has; and as it
+is called while the exported calls run. Only of a function of the kit's own library, and of one that is given a struct with an invariant, a
+case is left out in which it does what is not defined. What it must answer, and what must stand in the memory that it was lent, machine.py
+says, which runs the MIR itself.
 
 Three files come of it: a C program that includes pool.c and makes the calls, what it reads, and the lines that it must print."""
 
@@ -434,11 +435,14 @@ class Functions:
         return [(packed(64, [number]) + b"".join(given for _, given in made), " ".join(words))]
 
     def may_be_stuck(self, path):
-        """Whether a function has a precondition, or may have: a method has its trait's, and what is passed as a struct has that of its invariant."""
+        """Whether a case may be left out: of a function of the kit's library, or where what is passed as a struct may not be one that there is."""
         source = self.file.source(path)
-        params = self.file.program.signature(path)[1]
-        return source.plain or source.asks or path.split("::")[-2][:1].isupper() or \
-            any(isinstance(ty, Named) or isinstance(ty, Ref) and isinstance(ty.to, Named) for ty in params)
+        named = [ty.to if isinstance(ty, Ref) else ty for ty in self.file.program.signature(path)[1]]
+        return source.plain or source.asks or any(isinstance(ty, Named) and self.bound(ty) for ty in named)
+
+    def bound(self, ty):
+        declared = self.file.sources.types.get(ty.name.partition("<")[0])
+        return declared is not None and declared.bound
 
     def given(self, path):
         """The arguments of a function's calls: as it was called, by chance, and where it takes numbers alone, each of them at each edge."""

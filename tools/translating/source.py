@@ -31,10 +31,10 @@ class Function:
 
 
 class Type:
-    """`members` has a struct's fields, or an enum's variants."""
+    """`members` has a struct's fields, or an enum's variants. A `bound` one has an invariant, so not every value of its fields is one of it."""
 
-    def __init__(self, comment, members):
-        self.comment, self.members = comment, members
+    def __init__(self, comment, members, bound=False):
+        self.comment, self.members, self.bound = comment, members, bound
 
 
 class Sources:
@@ -121,9 +121,10 @@ def read_function(lines, at):
 def read_type(lines, at):
     if lines[at].endswith(";"):
         return Type(comment_above(lines, at), [f"f{n}" for n in range(lines[at].count(",") + lines[at].count("("))])
-    body = [line for line in until(lines, at, "}")[1:] if not line.strip().startswith(("//", "ghost ", "invariant ", "#["))]
+    within = until(lines, at, "}")[1:]
+    body = [line for line in within if not line.strip().startswith(("//", "ghost ", "invariant ", "#["))]
     members = [re.match(r"    (?:pub(?:\(crate\))? )?(\w+)", line) for line in body]
-    return Type(comment_above(lines, at), [m[1] for m in members if m])
+    return Type(comment_above(lines, at), [m[1] for m in members if m], any(line.strip().startswith(("ghost ", "invariant ")) for line in within))
 
 
 def without_comments(text):

@@ -15,7 +15,7 @@ constinit const_cast continue co_await co_return co_yield decltype default delet
 extern false float for friend goto if inline int long mutable namespace new noexcept not not_eq nullptr operator or or_eq private
 protected public register reinterpret_cast requires restrict return short signed sizeof static static_assert static_cast struct switch
 template this thread_local throw true try typedef typeid typename typeof union unsigned using virtual void volatile wchar_t while xor
-xor_eq each""".split())
+xor_eq each APART""".split())
 
 LINE = 132  # columns
 
@@ -214,7 +214,7 @@ class Writer:
     def signature(self):
         params = [part for local in range(1, self.fn.params + 1)
                   for part in declared(self.fn.types[local], self.locals[local], self.file.names) if self.fn.types[local] != UNIT]
-        own = "" if self.source.exported else "static inline "
+        own = "" if self.source.exported else "static APART " if self.path in self.file.apart else "static inline "
         head = f"{own}{c_type(self.fn.types[0], self.file.names)} {self.file.names.functions[self.path]}("
         return broken(head, params or ["void"], ")")
 

@@ -12,7 +12,8 @@ use paper::Refusal;
 pub fn bring_in(pool: &mut [u8]) -> Result<u32, Refusal>
     ensures { call.bring_in pool.old ≡ out result pool.new }
 {
-    reading::check_by_old_rule(pool)?;
+    let read = reading::check_by_old_rule(pool);
+    read?;
     let edge = words::get::<u32>(pool, paper::END);
     Ok(homing::go_home(pool, edge))
 }

@@ -8,4 +8,5 @@ pub mod WholeBytes
 pub mod Parting
 pub mod PartBytes
 pub mod CarryBytes
+pub mod CarriesRefusal
 pub mod TakeBytes

@@ -1,5 +1,5 @@
 -- The model of taking, on a list of bytes: what is chosen is carried out.
-use Rattle.std.specs.Prelude.{List, ℕ}
+use Rattle.std.specs.Prelude.{IsErrOf, IsOkAnd, List, ℕ, ◌≡◌}
 use Rattle.choosing.specs.declared.Choice.{Choice}
 use Rattle.choosing.specs.declared.Choice.TheVariants.{ExactBin, FirstOfBin, HighEnd, LargerBin, LowEnd}
 use Rattle.choosing.specs.Choosing.{choose}
@@ -21,6 +21,11 @@ carry bs (LowEnd rest b) = cut_low bs rest b
 abbrev pub carry_out : List ℕ → Result Choice Refusal → Out
 carry_out bs (Ok choice) = carry bs choice
 carry_out bs (Err k) = out (Err k) bs
+
+-- the same where a refusal is of whatever kind: what is answered, and what is left
+abbrev pub CarriesOut : {E : Type 0} → List ℕ → Result Choice E → Result ℕ E → List ℕ → Type 0
+CarriesOut bs (Ok choice) result after = IsOkAnd result (λ offset. carry bs choice ≡ out (Ok offset) after)
+CarriesOut bs (Err k) result after = IsErrOf result k × (after ≡ bs)
 
 unfoldable pub take : List ℕ → ℕ → Out
 take bs s = carry_out bs (choose bs s)

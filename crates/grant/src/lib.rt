@@ -9,7 +9,7 @@ mod small;
 
 ghost use Rattle.std.specs.Prelude.{◌≡◌, Ok};
 ghost use Rattle.paper.specs.Answers.{out};
-ghost use Rattle.grant.specs.Take.{carry, carry_out, take as take-of};
+ghost use Rattle.grant.specs.Take.{carry, CarriesOut, take as take-of};
 
 use choosing::{Choice, choose};
 use paper::Refusal;
@@ -28,9 +28,9 @@ fn carry(pool: &mut [u8], choice: Choice) -> u32
     }
 }
 
-// The same of a choice or the refusal in its place, which is handed on, and nothing is done.
-pub fn carry_out(pool: &mut [u8], choice: Result<Choice, Refusal>) -> Result<u32, Refusal>
-    ensures { carry_out pool.old choice ≡ out result pool.new }
+// The same of a choice or the refusal in its place, of whatever kind: it is handed on, and nothing is done.
+pub fn carry_out<E>(pool: &mut [u8], choice: Result<Choice, E>) -> Result<u32, E>
+    ensures { CarriesOut pool.old choice result pool.new }
 {
     Ok(carry(pool, choice?))
 }

@@ -1,7 +1,7 @@
 // The words that stand at fixed places: the header, the false block, and the head of the remainder.
 #![tactic(auto)]
 
-ghost use Rattle.std.specs.Prelude.{◌≡◌, ◌*◌, ◌<◌, eqb};
+ghost use Rattle.std.specs.Prelude.{◌≡◌, eqb};
 ghost use Rattle.heads.specs.Links.{link_word, followed};
 ghost use Rattle.guards.specs.Tests.{pass};
 ghost use Rattle.header.specs.Header.{cleared, rest_between, reserved_tests, false_tests};
@@ -73,12 +73,11 @@ fn reserved_ok(pool: &[u8]) -> bool
 
 // Whether k words from `from` on, `step` bytes apart, are 0: one test for all of them.
 fn zeros(pool: &[u8], k: u32, step: u32, from: u32) -> bool
-    requires { k * step < 4294967296 }
     ensures { result ≡ cleared pool.now k step from }
 {
     let mut all = 0;
     for i in 0..k {
-        all |= words::field(pool, from, i * step);
+        all |= words::get::<u32>(pool, from as usize + i as usize * step as usize);
     }
     all == 0
 }

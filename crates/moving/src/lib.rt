@@ -47,7 +47,7 @@ fn stand(pool: &mut [u8], lasts: &mut [u32; HIGHER], h: u32, f: u32)
         return;
     }
     words::put_field(pool, f, LEVEL, h);
-    for level in 2..=h {
+    for level in 2..h + 1 {
         let i = (level - 2) as usize;
         let last = lasts[i];
         words::put_field(pool, last, levels::word(level), heads::link_word(last, f));

@@ -2,7 +2,9 @@
 use crate::stop::Stop;
 use paper::{Figures, Refusal};
 use std::fmt;
-use std::fmt::{InlineText, Write};
+use std::fmt::Write;
+
+const DIGITS: [u8; 16] = *b"0123456789abcdef";
 
 #[derive(Drop)]
 pub struct Output<'a, R> {
@@ -69,18 +71,22 @@ impl<R: Print + Eprint> Output<'_, R> {
     }
 
     // How many bytes there are, and the bytes in lower-case hex, by way of a buffer; `-` where there are none.
+    // The digits are looked up: `{b:02x}` would take some ten times as long for each byte.
     pub fn bytes(&mut self, bytes: &[u8]) -> Result<(), Stop> {
         let n = bytes.len();
         write!(self, " {n} ")?;
         if n == 0 {
             write!(self, "-")?;
         }
+        let mut digits = [0u8; 4096];
         for part in bytes.chunks(2048) {
-            let mut digits = InlineText::<4096>::new();
-            for b in part {
-                write!(digits, "{b:02x}")?;
+            for (i, b) in part.iter().enumerate() {
+                digits[2 * i] = DIGITS[(*b >> 4) as usize];
+                digits[2 * i + 1] = DIGITS[(*b & 15) as usize];
             }
-            self.write_str(digits.as_str())?;
+            // No part has more digits than that.
+            let end = (2 * part.len()).min(digits.len());
+            streams::write(self.rt, &digits[..end])?;
         }
         Ok(())
     }

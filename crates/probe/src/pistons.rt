@@ -6,10 +6,12 @@ use std::fmt::Write;
 use std::io::Read;
 
 impl<R: Print + Eprint, I: Read> Bench<'_, R, I> {
-    // B: the bank is the 32 numbers that are read.
+    // B: the bank is the 32 numbers that are read, by one reading.
     pub fn given(&mut self) -> Result<u32, Stop> {
-        for number in &mut self.bank {
-            *number = self.input.number()?;
+        let mut bytes = [0u8; 128];
+        self.input.fill(&mut bytes, 128)?;
+        for (i, number) in self.bank.iter_mut().enumerate() {
+            *number = words::get(&bytes, 4 * i);
         }
         Ok(32)
     }
@@ -28,10 +30,11 @@ impl<R: Print + Eprint, I: Read> Bench<'_, R, I> {
     // R: recalls a piston.
     pub fn recalled(&mut self) -> Result<(), Stop> {
         let piston = self.input.number()?;
-        let recalled = bank::recall(self.pool.pool(), &self.bank, piston);
-        let number = recalled.refusal.map_or(0, u8::from);
+        let pool = self.pool.pool();
+        let place = bank::find(pool, &self.bank, piston);
+        let number = place.refusal.map_or(0, u8::from);
         write!(self.output, "R {number}")?;
-        self.output.bytes(recalled.part)?;
+        self.output.bytes(&pool[place.from..place.to])?;
         self.output.end()
     }
 

@@ -54,6 +54,10 @@ fit_facts z c e p h i =
     let r = (guard-inv (fit_size z c e p) false true true no_both (sym h ∙ i)).0 in
     record { eight = omega (arith, r.0); kind = r.1.0; room = omega (arith, r.1.1.1.0) }
 
+-- the kind of a head's size that fits
+pub fits-kind : (w z c e p : ℕ) {b : Bool} → z ≡ size_of w → b ≡ pass (fit_size z c e p) → b ≡ true → small (size_of w) ≡ c
+fits-kind w z c e p ez h i = ap small (sym ez) ∙ (fit_facts z c e p h i).kind
+
 -- a small block has no footer
 pub small-ends : (s : List ℕ) (w p : ℕ) → small (size_of w) ≡ 1 → true ≡ eqb (foot_of s w p) w
 small-ends s w p k =

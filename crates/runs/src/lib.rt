@@ -1,7 +1,7 @@
 // A run of blocks end to end, read by their heads; each free one is marked, counted and summed.
 #![tactic(auto)]
 
-ghost use Rattle.std.specs.Prelude.{◌≡◌, ◌+◌, ◌*◌, ◌<◌, ◌^◌, ℕ, eqb};
+ghost use Rattle.std.specs.Prelude.{◌≡◌, ◌+◌, ◌*◌, ℕ, eqb};
 ghost use Rattle.guards.specs.Tests.{pass};
 ghost use Rattle.heads.specs.Heads.{size_of};
 ghost use Rattle.paper.specs.Layout.{blocks_at};
@@ -27,10 +27,9 @@ trait Kind {
     fn has(z: u32) -> bool
         ensures { result ≡ pass (of_kind z kind) };
 
-    // Whether the free block at p with the head w ends as it must: a large one repeats its head there.
+    // Of a size of theirs, whether the free block at p with the head w ends as it must: a large one repeats its head there.
     fn ends(pool: &[u8], w: u32, p: u32) -> bool
-        requires { small (size_of w) ≡ kind }
-        ensures { result ≡ eqb (foot_of pool.now w p) w };
+        ensures { small (size_of w) ≡ kind → result ≡ eqb (foot_of pool.now w p) w };
 
     // The flags of a held block above a free one.
     fn above_free() -> u32
@@ -48,7 +47,7 @@ impl Kind for Large {
 
     fn ends(pool: &[u8], w: u32, p: u32) -> bool {
         let z = heads::size_of(w);
-        words::field(pool, p, z - 4) == w
+        words::field(pool, p, words::minus(z, 4)) == w
     }
 
     fn above_free() -> u32 {
@@ -81,23 +80,23 @@ impl Kind for Small {
 pub fn scan_both(pool: &[u8], m: &mut [u64], a: u32, b: u32, e: u32) -> Option<Seen>
     ensures { ScansBoth pool.now a b e m.old m.new result }
 {
-    let none = Seen { count: 0, sum: 0 };
-    let low = scan::<Large>(pool, m, BLOCKS, a, none)?;
-    scan::<Small>(pool, m, b, e, low)
+    let low = scan::<Large>(pool, m, BLOCKS, a, 0, 0)?;
+    scan::<Small>(pool, m, b, e, low.count as u32, low.sum as u32)
 }
 
-// The blocks of one kind from `from` to e; `before` is what was seen before them. `due` is what the flags of a held block must be here. A free block
+// The blocks of one kind from `from` to e; n0 and sum0 are what was seen before them. `due` is what the flags of a held block must be here. A free block
 // needs them to have P, so no two free ones touch. Among small blocks each has P: there `due` is a constant, as are the bounds of a size, and this
 // loop is what an inspection mostly does.
 #[tactic(auto, using(crate::proofs::Laws::fit_facts))]
-fn scan<K: Kind>(pool: &[u8], m: &mut [u64], from: u32, e: u32, before: Seen) -> Option<Seen>
-    requires few { before.count < 2 ^ 32 }
-    requires less_sum { before.sum < 2 ^ 32 }
-    ensures { Scans pool.now K.kind e from before.count before.sum m.old m.new result }
+fn scan<K: Kind>(pool: &[u8], m: &mut [u64], from: u32, e: u32, n0: u32, sum0: u32) -> Option<Seen>
+    ensures { Scans pool.now K.kind e from n0 sum0 m.old m.new result }
 {
     let mut p = from;
     let mut due = HELD;
-    let mut seen = before;
+    let mut seen = Seen {
+        count: n0 as usize,
+        sum: sum0 as usize,
+    };
     while p != e {
         let w = words::get::<u32>(pool, p as usize);
         let z = heads::size_of(w);
@@ -136,10 +135,9 @@ fn fits<K: Kind>(z: u32, e: u32, p: u32) -> bool
     p as u64 + z as u64 <= e as u64
 }
 
-// The head w at p of a block that is not held, where the flags `due` were.
+// The head w at p of a block that is not held, of a size of its kind, where the flags `due` were.
 fn free_ok<K: Kind>(pool: &[u8], w: u32, due: u32, p: u32) -> bool
-    requires { small (size_of w) ≡ K.kind }
-    ensures { result ≡ pass (free_at pool.now w due p) }
+    ensures { small (size_of w) ≡ K.kind → result ≡ pass (free_at pool.now w due p) }
 {
     if due != HELD {
         return false;

@@ -1,9 +1,8 @@
 // The run's pool, which is the first n bytes of its buffer, and the pool's calls on it.
-ghost use Rattle.std.specs.Prelude.{◌≡◌, ◌<◌, ◌≤◌, ◌++◌, List, ℕ, Err, length, take as first_of, drop};
-ghost use Rattle.std.specs.Fn.{FnOnceReturnsAtMut};
-ghost use Rattle.paper.specs.declared.Refusal.TheVariants.{NotAllowed};
+ghost use Rattle.std.specs.Prelude.{◌≡◌, ◌<◌, ◌≤◌, IfSome, IfNone, length};
+ghost use Rattle.paper.specs.Answers.{out};
 ghost use Rattle.pool.specs.Calls as call;
-ghost use Rattle.tape.specs.Serve.{on_first as on_first_of, figures_first, accepted};
+ghost use Rattle.tape.specs.Serve.{on_first, figures_first, accepted};
 ghost use Rattle.tape.specs.Called.{Called};
 
 use paper::{Figures, Refusal};
@@ -18,9 +17,9 @@ pub struct RunPool<'a> {
 impl RunPool<'_> {
     // Lays out the first `new` bytes. Where that is refused, the pool stays the old one.
     pub fn lay_out(&mut self, new: u32, layout: u32) -> Result<u32, Refusal>
-        ensures { Called self.old (on_first_of (λ s. call.lay_out s layout) new self.old.buffer.now) (accepted result new self.old.n) result self.new }
+        ensures { Called self.old (on_first (λ s. call.lay_out s layout) new self.old.buffer.now) (accepted result new self.old.n) result self.new }
     {
-        let answer = on_first(self.buffer, new, |pool| pool::lay_out(pool, layout));
+        let answer = lay_out(self.buffer, new, layout);
         match answer {
             Ok(_) => self.n = new,
             Err(_) => {}
@@ -29,15 +28,15 @@ impl RunPool<'_> {
     }
 
     pub fn take(&mut self, size: u32) -> Result<u32, Refusal>
-        ensures { Called self.old (on_first_of (λ s. call.take s size) self.old.n self.old.buffer.now) self.old.n result self.new }
+        ensures { Called self.old (on_first (λ s. call.take s size) self.old.n self.old.buffer.now) self.old.n result self.new }
     {
-        on_first(self.buffer, self.n, |pool| pool::take(pool, size))
+        take(self.buffer, self.n, size)
     }
 
     pub fn give_back(&mut self, offset: u32) -> Result<u32, Refusal>
-        ensures { Called self.old (on_first_of (λ s. call.give_back s offset) self.old.n self.old.buffer.now) self.old.n result self.new }
+        ensures { Called self.old (on_first (λ s. call.give_back s offset) self.old.n self.old.buffer.now) self.old.n result self.new }
     {
-        on_first(self.buffer, self.n, |pool| pool::give_back(pool, offset))
+        give_back(self.buffer, self.n, offset)
     }
 
     pub fn figures(&self) -> Result<Figures, Refusal>
@@ -50,20 +49,43 @@ impl RunPool<'_> {
     }
 }
 
-// A call on the first n bytes of a buffer. An n that the buffer does not have is not allowed.
-fn on_first<T, F: FnOnce(&mut [u8]) -> Result<T, Refusal>>(
-    buffer: &mut [u8],
-    n: u32,
-    call: F,
-) -> Result<T, Refusal>
-    requires { F.IsAlwaysCallable call }
-    ensures past { length buffer.old < n → (result ≡ Err NotAllowed) × (buffer.new ≡ buffer.old) }
-    ensures within { n ≤ length buffer.old
-        → (after : List ℕ) × FnOnceReturnsAtMut F.FnOnce call (first_of n buffer.old) result after × (buffer.new ≡ after ++ drop n buffer.old) }
+// Where the first n bytes of a buffer end, if it has them.
+fn first(buffer: &[u8], n: u32) -> Option<usize>
+    ensures within { IfSome result (λ end. (end ≡ n) × (n ≤ length buffer.now)) }
+    ensures past { IfNone result (length buffer.now < n) }
 {
     let end = n as usize;
     if buffer.len() < end {
-        return Err(Refusal::NotAllowed);
+        return None;
     }
-    call(&mut buffer[..end])
+    Some(end)
+}
+
+// The calls that change the pool, on the first n bytes of the buffer; an n that it does not have is not allowed. Not one for three that
+// takes the call as a closure: it would have to ask of its caller that the closure may be called.
+fn lay_out(buffer: &mut [u8], n: u32, layout: u32) -> Result<u32, Refusal>
+    ensures { on_first (λ s. call.lay_out s layout) n buffer.old ≡ out result buffer.new }
+{
+    let Some(end) = first(buffer, n) else {
+        return Err(Refusal::NotAllowed);
+    };
+    pool::lay_out(&mut buffer[..end], layout)
+}
+
+fn take(buffer: &mut [u8], n: u32, size: u32) -> Result<u32, Refusal>
+    ensures { on_first (λ s. call.take s size) n buffer.old ≡ out result buffer.new }
+{
+    let Some(end) = first(buffer, n) else {
+        return Err(Refusal::NotAllowed);
+    };
+    pool::take(&mut buffer[..end], size)
+}
+
+fn give_back(buffer: &mut [u8], n: u32, offset: u32) -> Result<u32, Refusal>
+    ensures { on_first (λ s. call.give_back s offset) n buffer.old ≡ out result buffer.new }
+{
+    let Some(end) = first(buffer, n) else {
+        return Err(Refusal::NotAllowed);
+    };
+    pool::give_back(&mut buffer[..end], offset)
 }

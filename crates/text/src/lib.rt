@@ -25,12 +25,12 @@ impl Page<'_> {
         }
     }
 
-    // Puts the bytes of a text, one after the other.
+    // Puts the bytes of a text, one after the other; by their places, so that the edit first_byte_left_out is refused for the byte and not for its form.
     pub fn put(&mut self, text: &[u8])
         ensures { Puts self.old text.now self.new }
     {
-        for b in text {
-            self.put_one(*b);
+        for i in 0..text.len() {
+            self.put_one(text[i]);
         }
     }
 

@@ -122,3 +122,7 @@ put-add a b bs at v h =
     put_in (a + b) bs at v h ∙ digits-split a b bs at v
     ∙ sym (put_in b (put_at a bs at v) (at + a) (v / 256 ^ a) (omega (arith, put-length a bs at v))
     ∙ ap (λ (l : List ℕ). put_digits b l (at + a) (v / 256 ^ a)) (put_in a bs at v (omega arith)))
+
+pub put-halves : (bs m n : List ℕ) (at v : ℕ) → at + 8 ≤ length bs → m ≡ put_at 4 bs at (v % 4294967296) → n ≡ put_at 4 m (at + 4) (v / 4294967296)
+    → n ≡ put_at 8 bs at v
+put-halves bs m n at v h p q = q ∙ rw (p, put-mod 4) (sym (put-add 4 4 bs at v h))

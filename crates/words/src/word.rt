@@ -1,6 +1,6 @@
 // The numbers that stand in bytes as words: u32 in 4 of them, u64 in 8.
-ghost use Rattle.std.specs.Prelude.{◌≡◌, refl, ℕ, ◌+◌, ◌≤◌, length};
-ghost use Rattle.words.specs.Words.{digits_at, put_digits, word_at, put_at};
+ghost use Rattle.std.specs.Prelude.{◌≡◌, ℕ, ◌+◌, ◌<◌, ◌≤◌, length, true, false};
+ghost use Rattle.words.specs.Words.{word_at, put_at};
 
 pub trait Word: Copy {
     // The number itself, and how many bytes it stands in.
@@ -10,21 +10,25 @@ pub trait Word: Copy {
 
     const WIDTH: usize;
 
-    ghost ZERO: { Self };
-
-    const ZERO: Self;
-
-    // The word at `at`, which is wholly in the bytes.
+    // The word at `at`.
     fn read(s: &[u8], at: usize) -> Self
-        requires { at + WIDTH ≤ length s.now }
-        ensures { number result ≡ digits_at WIDTH s.now at };
+        ensures { number result ≡ word_at WIDTH s.now at };
 
-    // Stores the word at `at`, wholly in the bytes.
+    // Stores the word at `at`.
     fn write(self, s: &mut [u8], at: usize)
-        requires { at + WIDTH ≤ length s.old }
-        ensures { s.new ≡ put_digits WIDTH s.old at (number self) };
+        ensures { s.new ≡ put_at WIDTH s.old at (number self) };
+}
 
-    ghost zero_is: { number ZERO ≡ 0 };
+// Whether a word of this width at `at` is wholly in the bytes. The first difference is the same for every read of a pool, so a read costs one test.
+fn is_within(s: &[u8], at: usize, width: usize) -> bool
+    ensures yes { result ≡ true → at + width ≤ length s.now }
+    ensures no { result ≡ false → length s.now < at + width }
+{
+    let n = s.len();
+    if n < width {
+        return false;
+    }
+    at <= n - width
 }
 
 // Four plain reads, which the machine does as one; and four plain stores.
@@ -36,13 +40,10 @@ impl Word for u32 {
 
     const WIDTH: usize = 4;
 
-    ghost ZERO = { 0 };
-
-    const ZERO: u32 = 0;
-
-    ghost zero_is = { refl };
-
     fn read(s: &[u8], at: usize) -> u32 {
+        if !is_within(s, at, Self::WIDTH) {
+            return 0;
+        }
         s[at] as u32
             + 256 * s[at + 1] as u32
             + 65536 * s[at + 2] as u32
@@ -50,6 +51,9 @@ impl Word for u32 {
     }
 
     fn write(self, s: &mut [u8], at: usize) {
+        if !is_within(s, at, Self::WIDTH) {
+            return;
+        }
         s[at] = (self % 256) as u8;
         s[at + 1] = (self / 256 % 256) as u8;
         s[at + 2] = (self / 65536 % 256) as u8;
@@ -65,33 +69,26 @@ impl Word for u64 {
 
     const WIDTH: usize = 8;
 
-    ghost ZERO = { 0 };
-
-    const ZERO: u64 = 0;
-
-    ghost zero_is = { refl };
-
     fn read(s: &[u8], at: usize) -> u64 {
+        if !is_within(s, at, Self::WIDTH) {
+            return 0;
+        }
         u32::read(s, at) as u64 + 4294967296 * u32::read(s, at + 4) as u64
     }
 
     fn write(self, s: &mut [u8], at: usize) {
+        if !is_within(s, at, Self::WIDTH) {
+            return;
+        }
         ((self % 4294967296) as u32).write(s, at);
         ((self / 4294967296) as u32).write(s, at + 4);
     }
 }
 
-// The word at `at`. The first difference is the same for every read of a pool, so a read costs one test.
+// The word at `at`, of the width that is asked for.
 pub fn get<W: Word>(s: &[u8], at: usize) -> W
     ensures { W.number result ≡ word_at W.WIDTH s.now at }
 {
-    let n = s.len();
-    if n < W::WIDTH {
-        return W::ZERO;
-    }
-    if n - W::WIDTH < at {
-        return W::ZERO;
-    }
     W::read(s, at)
 }
 
@@ -99,13 +96,6 @@ pub fn get<W: Word>(s: &[u8], at: usize) -> W
 pub fn put<W: Word>(s: &mut [u8], at: usize, v: W)
     ensures { s.new ≡ put_at W.WIDTH s.old at (W.number v) }
 {
-    let n = s.len();
-    if n < W::WIDTH {
-        return;
-    }
-    if n - W::WIDTH < at {
-        return;
-    }
     v.write(s, at);
 }
 

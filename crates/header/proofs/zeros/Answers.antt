@@ -6,7 +6,7 @@ pub loop-i-init : goal.loop-i-init
 loop-i-init c = clearing _ _ _ _
 
 pub loop-i-preserved : goal.loop-i-preserved
-loop-i-preserved c = clears c.loop-i.invariant c.loop-i-test.true c.field-all.ensures
+loop-i-preserved c = clears c.loop-i.invariant c.loop-i-test.true c.get-all.ensures
 
 pub returns : goal.returns
 returns c = is-cleared c.loop-i.invariant c.loop-i-test.false

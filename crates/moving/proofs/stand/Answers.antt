@@ -12,10 +12,5 @@ loop-level-init c = climbing _ _ _
 pub loop-level-preserved : goal.loop-level-preserved
 loop-level-preserved c = climbs c.loop-level.invariant (omega (arith, c.loop-level-test.true)) c.word.ensures c.link_word.ensures c.put_field-in-loop-level.ensures
 
-pub returns-else-h-gt-LEVELS : goal.returns-else-h-gt-LEVELS
-returns-else-h-gt-LEVELS c = climbed c.loop-level.invariant c.loop-level-test.false c.if-h-gt-LEVELS.false _ c.put_field.ensures
-
-pub returns-else-h-gt-LEVELS-2 : goal.returns-else-h-gt-LEVELS-2
-returns-else-h-gt-LEVELS-2 c =
-    climbed (climbs c.loop-level.invariant (omega arith) c.word.ensures c.link_word.ensures c.put_field-in-loop-level.ensures)
-    (omega arith) c.if-h-gt-LEVELS.false _ c.put_field.ensures
+pub returns : goal.returns
+returns c = climbed c.loop-level.invariant (omega (arith, c.loop-level-test.false)) c.if-h-gt-LEVELS.false _ c.put_field.ensures

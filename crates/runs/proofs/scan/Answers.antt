@@ -1,6 +1,6 @@
 -- `scan`: the invariant says that the whole walk is the walk from here. Each way out and each way on has its law.
 use Rattle.std.proofs.Common.{rules}
-use Rattle.runs.proofs.Laws.{begin, scan-done, scan-due, scan-unfit, scan-unfree, scan-held, scan-free}
+use Rattle.runs.proofs.Laws.{begin, scan-done, scan-due, scan-unfit, scan-unfree, scan-held, scan-free, fits-kind}
 use Rattle.runs.proofs.scan.Goals as goal
 use Rattle.runs.proofs.scan.Goals.{then-flags_of-due, else-flags_of-due+else-not-free_ok}
 
@@ -21,7 +21,8 @@ returns-then-not-free_ok g c =
       few = search rules;
       less_sum = search rules;
       all = scan-unfree c.loop-p.invariant c.loop-p-test.true c.get-w.ensures c.size_of-z.ensures
-          c.fits.ensures c.if-not-fits.false c.flags_of.ensures c.if-flags_of-due.false c.free_ok.ensures c.if-not-free_ok.true;
+          c.fits.ensures c.if-not-fits.false c.flags_of.ensures c.if-flags_of-due.false
+          (c.free_ok.ensures (fits-kind _ _ _ _ _ c.size_of-z.ensures c.fits.ensures c.if-not-fits.false)) c.if-not-free_ok.true;
     }
 
 pub loop-p-preserved : goal.loop-p-preserved
@@ -31,7 +32,8 @@ loop-p-preserved g c =
           c.fits.ensures c.if-not-fits.false c.flags_of.ensures (search rules) w.if-flags_of-due.true)
       | else-flags_of-due+else-not-free_ok w ↦ rw (w.m-is, w.due-is, w.seen-is)
           (scan-free c.loop-p.invariant c.loop-p-test.true c.get-w.ensures c.size_of-z.ensures
-          c.fits.ensures c.if-not-fits.false c.flags_of.ensures w.if-flags_of-due.false w.free_ok.ensures
+          c.fits.ensures c.if-not-fits.false c.flags_of.ensures w.if-flags_of-due.false
+          (w.free_ok.ensures (fits-kind _ _ _ _ _ c.size_of-z.ensures c.fits.ensures c.if-not-fits.false))
           (search rules) w.if-not-free_ok.false w.mark.ensures w.above_free-due.ensures (search rules))
     ]
 

@@ -4,7 +4,7 @@ use Rattle.runs.proofs.Laws.{Scanning}
 use Rattle.runs.proofs.scan.Given as goal
 
 abbrev pub invariant-loop-p : goal.invariant-loop-p
-invariant-loop-p g l = Scanning l.pool l.initial.m g.K.Kind.kind l.e l.from l.fn.before.count l.fn.before.sum l.m l.p l.due l.seen.count l.seen.sum
+invariant-loop-p g l = Scanning l.pool l.initial.m g.K.Kind.kind l.e l.from l.n0 l.sum0 l.m l.p l.due l.seen.count l.seen.sum
 
 abbrev pub decreases-loop-p : goal.decreases-loop-p
 decreases-loop-p g l = l.e - l.p

@@ -3,4 +3,4 @@ use Rattle.runs.proofs.Laws.{small-ends}
 use Rattle.runs.proofs.SmallKind.ends.Goals as goal
 
 pub returns : goal.returns
-returns c = small-ends _ _ _ c.requires
+returns c = λ k. small-ends _ _ _ k

@@ -3,5 +3,5 @@ use Rattle.std.proofs.Common.{take}
 use Rattle.text.specs.Lent.{Puts}
 use Rattle.text.proofs.Page.put.Given as goal
 
-abbrev pub invariant-loop-b : goal.invariant-loop-b
-invariant-loop-b l = Puts l.fn.self (take l.b-index l.text) l.self
+abbrev pub invariant-loop-i : goal.invariant-loop-i
+invariant-loop-i l = Puts l.fn.self (take l.i l.text) l.self
