@@ -172,21 +172,6 @@ typedef struct {
     uint64_t end;
 } walk_Blocks;
 
-// A block on the way: where it starts, and its head.
-typedef struct {
-    uint64_t start;
-    heads_Head head;
-} walk_Block;
-
-// A value that may be absent.
-enum { OPTION_BLOCK_NONE, OPTION_BLOCK_SOME };
-typedef struct {
-    uint8_t tag;
-    union {
-        walk_Block Some;
-    } as;
-} Option_Block;
-
 // The block that an address is in, by its kind, with its start and its size; or nothing, outside the blocks.
 enum { PAPER_FOUND_HELD, PAPER_FOUND_FREE, PAPER_FOUND_REMAINDER, PAPER_FOUND_NOTHING };
 typedef struct {
@@ -488,29 +473,6 @@ static inline walk_Blocks walk_Blocks_of(const unsigned char *pool, size_t pool_
     return made;
 }
 
-static inline walk_Block walk_Block_of(uint64_t start, heads_Head head)
-{
-    walk_Block made;
-    made.start = start;
-    made.head = head;
-    return made;
-}
-
-static inline Option_Block Option_Block_None(void)
-{
-    Option_Block made;
-    made.tag = OPTION_BLOCK_NONE;
-    return made;
-}
-
-static inline Option_Block Option_Block_Some(walk_Block f0)
-{
-    Option_Block made;
-    made.tag = OPTION_BLOCK_SOME;
-    made.as.Some = f0;
-    return made;
-}
-
 static inline paper_Found paper_Found_Held(uint32_t f0, uint32_t f1)
 {
     paper_Found made;
@@ -653,15 +615,6 @@ static inline uint32_t trailing_zeros(uint32_t x)
 
 // ---- core: the kit that the crates are written with
 
-// `core::int::u32::cast_signed` of the kit's own library.
-static inline uint32_t core_u32_cast_signed(uint32_t a)
-{
-    if (a <= 2147483647u) {
-        return a;
-    }
-    return (uint32_t)~(0xffffffffu - a);
-}
-
 // `core::int::i32::cast_unsigned` of the kit's own library.
 static inline uint32_t core_i32_cast_unsigned(uint32_t a)
 {
@@ -669,6 +622,15 @@ static inline uint32_t core_i32_cast_unsigned(uint32_t a)
         return 0xffffffffu - (uint32_t)~a;
     }
     return a;
+}
+
+// `core::int::u32::cast_signed` of the kit's own library.
+static inline uint32_t core_u32_cast_signed(uint32_t a)
+{
+    if (a <= 2147483647u) {
+        return a;
+    }
+    return (uint32_t)~(0xffffffffu - a);
 }
 
 // `core::int::u32::min` of the kit's own library.
@@ -2137,20 +2099,6 @@ static inline walk_Blocks walk_Blocks_below(const unsigned char *pool, size_t po
     return walk_Blocks_of(pool, pool_len, (uint64_t)from, (uint64_t)to);
 }
 
-static inline Option_Block walk_Blocks_next(walk_Blocks *self)
-{
-    if (self->end <= self->at) {
-        return Option_Block_None();
-    }
-    uint64_t start = self->at;
-    heads_Head head = heads_Head_from_u32(words_get_u32(self->pool, self->pool_len, self->at));
-    if (head.size == 0u) {
-        return Option_Block_None();
-    }
-    self->at = self->at + (uint64_t)head.size;
-    return Option_Block_Some(walk_Block_of(start, head));
-}
-
 // Where the pool ends, as a position; no pool is longer than 65,536 bytes.
 static inline uint32_t walk_pool_end(const unsigned char *pool, size_t pool_len)
 {
@@ -2178,13 +2126,17 @@ static inline paper_Found walk_block_at(const unsigned char *pool, size_t pool_l
 {
     walk_Blocks value = walk_Blocks_up_to(pool, pool_len, from, address);
     for (;;) {
-        Option_Block value2 = walk_Blocks_next(&value);
-        if (value2.tag != OPTION_BLOCK_SOME) {
+        if (value.end <= value.at) {
             break;
         }
-        walk_Block block = value2.as.Some;
-        if ((uint64_t)address < block.start + (uint64_t)block.head.size) {
-            return walk_found_at(block.head, (uint32_t)block.start);
+        uint64_t start = value.at;
+        heads_Head head = heads_Head_from_u32(words_get_u32(value.pool, value.pool_len, value.at));
+        if (head.size == 0u) {
+            break;
+        }
+        value.at = value.at + (uint64_t)head.size;
+        if ((uint64_t)address < start + (uint64_t)head.size) {
+            return walk_found_at(head, (uint32_t)start);
         }
     }
     return paper_Found_Nothing();
@@ -2223,13 +2175,16 @@ static inline uint32_t walk_count_run(const unsigned char *pool, size_t pool_len
     uint32_t held = already;
     walk_Blocks value = walk_Blocks_below(pool, pool_len, from, to);
     for (;;) {
-        Option_Block value2 = walk_Blocks_next(&value);
-        if (value2.tag != OPTION_BLOCK_SOME) {
+        if (value.end <= value.at) {
             break;
         }
-        walk_Block block = value2.as.Some;
-        if (block.head.held) {
-            walk_bump(counts, counts_len, classes_class_of(words_minus(block.head.size, 4u)));
+        heads_Head head = heads_Head_from_u32(words_get_u32(value.pool, value.pool_len, value.at));
+        if (head.size == 0u) {
+            break;
+        }
+        value.at = value.at + (uint64_t)head.size;
+        if (head.held) {
+            walk_bump(counts, counts_len, classes_class_of(words_minus(head.size, 4u)));
             held = words_plus(held, 1u);
         }
     }
@@ -2273,12 +2228,15 @@ static inline paper_Figures walk_tally_run(const unsigned char *pool, size_t poo
     paper_Figures t = first;
     walk_Blocks value = walk_Blocks_below(pool, pool_len, from, to);
     for (;;) {
-        Option_Block value2 = walk_Blocks_next(&value);
-        if (value2.tag != OPTION_BLOCK_SOME) {
+        if (value.end <= value.at) {
             break;
         }
-        walk_Block block = value2.as.Some;
-        t = walk_counted(t, block.head);
+        heads_Head head = heads_Head_from_u32(words_get_u32(value.pool, value.pool_len, value.at));
+        if (head.size == 0u) {
+            break;
+        }
+        value.at = value.at + (uint64_t)head.size;
+        t = walk_counted(t, head);
     }
     return t;
 }
@@ -2311,15 +2269,19 @@ static inline homing_Run homing_free_run(const unsigned char *pool, size_t pool_
     homing_Run run = homing_Run_of(from, 0u);
     walk_Blocks value = walk_Blocks_below(pool, pool_len, from, walk_pool_end(pool, pool_len));
     for (;;) {
-        Option_Block value2 = walk_Blocks_next(&value);
-        if (value2.tag != OPTION_BLOCK_SOME) {
+        if (value.end <= value.at) {
             break;
         }
-        walk_Block block = value2.as.Some;
-        if (block.head.held) {
+        uint64_t start = value.at;
+        heads_Head head = heads_Head_from_u32(words_get_u32(value.pool, value.pool_len, value.at));
+        if (head.size == 0u) {
+            break;
+        }
+        value.at = value.at + (uint64_t)head.size;
+        if (head.held) {
             return run;
         }
-        run.end = words_plus((uint32_t)block.start, block.head.size);
+        run.end = words_plus((uint32_t)start, head.size);
         run.blocks = words_plus(run.blocks, 1u);
     }
     return run;
@@ -3000,13 +2962,14 @@ static inline Result_Kind_UnknownKind Result_Kind_UnknownKind_Err(bank_UnknownKi
 
 // ---- core: the kit that the crates are written with
 
-// `core::slice::index::UsizeSliceIndexRefSlice::pick<u32>` of the kit's own library.
-static inline Option_ref_u32 core_UsizeSliceIndexRefSlice_pick_u32(uint64_t a, const uint32_t *b, size_t b_len)
+// `core::option::Option::unwrap_or<u32>` of the kit's own library.
+static inline uint32_t core_Option_unwrap_or_u32(Option_u32 a, uint32_t b)
 {
-    if (a < b_len) {
-        return Option_ref_u32_Some(b + a);
+    if (a.tag == OPTION_U32_SOME) {
+        return a.as.Some;
+    } else {
+        return b;
     }
-    return Option_ref_u32_None();
 }
 
 // `core::option::more::Option+ref+T::copied<u32>` of the kit's own library.
@@ -3019,14 +2982,13 @@ static inline Option_u32 core_Option_copied_u32(Option_ref_u32 a)
     }
 }
 
-// `core::option::Option::unwrap_or<u32>` of the kit's own library.
-static inline uint32_t core_Option_unwrap_or_u32(Option_u32 a, uint32_t b)
+// `core::slice::index::UsizeSliceIndexRefSlice::pick<u32>` of the kit's own library.
+static inline Option_ref_u32 core_UsizeSliceIndexRefSlice_pick_u32(uint64_t a, const uint32_t *b, size_t b_len)
 {
-    if (a.tag == OPTION_U32_SOME) {
-        return a.as.Some;
-    } else {
-        return b;
+    if (a < b_len) {
+        return Option_ref_u32_Some(b + a);
     }
+    return Option_ref_u32_None();
 }
 
 // `core::slice::index::UsizeSliceIndexRefSlice::pick<u8>` of the kit's own library.
@@ -3046,13 +3008,17 @@ static inline void asking_mark_run(const unsigned char *pool, size_t pool_len, u
 {
     walk_Blocks value = walk_Blocks_below(pool, pool_len, from, to);
     for (;;) {
-        Option_Block value2 = walk_Blocks_next(&value);
-        if (value2.tag != OPTION_BLOCK_SOME) {
+        if (value.end <= value.at) {
             break;
         }
-        walk_Block block = value2.as.Some;
-        if (block.head.held) {
-            marks_mark(m, m_len, (uint32_t)block.start);
+        uint64_t start = value.at;
+        heads_Head head = heads_Head_from_u32(words_get_u32(value.pool, value.pool_len, value.at));
+        if (head.size == 0u) {
+            break;
+        }
+        value.at = value.at + (uint64_t)head.size;
+        if (head.held) {
+            marks_mark(m, m_len, (uint32_t)start);
         }
     }
 }

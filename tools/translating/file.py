@@ -54,7 +54,7 @@ class File:
         self.root, self.crates, self.program, self.sources = root, crates, program, Sources(root, crates.names, "board_c")
         self.fault = fault
         program.sourceless = lambda name: name not in self.sources.functions
-        self.used_types, self.makers, self.used_constants, self.used_counts, self.homes = [], {}, {}, set(), {}
+        self.used_types, self.makers, self.used_constants, self.used_counts, self.homes, self.called = [], {}, {}, set(), {}, {}
         self.headers = self.read_headers()
 
     # ---- what is there
@@ -133,11 +133,11 @@ class File:
     # ---- what is reached
 
     def callees(self, path):
-        found = []
-        for statement in everything(self.program.fn(path).body):
-            for value in values(statement):
-                found += [v.name for v in inside(value) if isinstance(v, Call)]
-        return found
+        """What a function calls as it is written: a step that is written into its loops is called no more."""
+        if path not in self.called:
+            body, _ = Writer(self, path).stepped()
+            self.called[path] = [v.name for s in everything(body) for value in values(s) for v in inside(value) if isinstance(v, Call)]
+        return self.called[path]
 
     def reach(self, paths):
         """All that is called from there, callees before callers. A circle of calls has no such order."""

@@ -11,9 +11,10 @@ from file import File
 from forms import COUNTS
 from program import Program
 from shape import Shaper
+from stepping import Stepping
 from source import Sources
-from tree import (Address, BOOL, Block, Break, Call, Cases, Continue, Do, Fn, For, If, Int, Leave, Load, Loop, Named, Never, Num, Offset, Op2, Ref,
-                  Return, Set, Slice, Start, Store, Truth, UNIT, Unknown, Unless, Var, While)
+from tree import (Address, Block, BOOL, Break, Call, Cases, Continue, Do, Field, Fn, For, Held, If, Int, Leave, Load, Loop, Make, Named,
+                  Never, Num, Offset, Op2, Ref, Return, Set, SetField, Slice, Start, Store, Truth, UNIT, Unknown, Unless, Var, While)
 
 root, = sys.argv[1:]
 passed = failed = 0
@@ -261,6 +262,36 @@ try:
     expect(False, "what would be written twice is not known")
 except Unknown:
     expect(True, "what would be written twice is not known")
+
+# ---- the step of an iterator
+
+WALK, GIVEN, BLOCK = Named("Walk"), Named("Option<Block>"), Named("Block")
+own = Load(WALK, Var(Ref(True, WALK), 1))
+place, head = Var(WORD, 2), Var(WORD, 3)
+none, some = Return(Make(GIVEN, 0, [])), Return(Make(GIVEN, 1, [Make(BLOCK, None, [place, head])]))
+STEP = [If(Op2(BOOL, "Le", "Unsigned", Field(WORD, own, 1), Field(WORD, own, 0)), [none], []), Set(2, Field(WORD, own, 0)),
+        Set(3, Load(WORD, Offset(BYTE, Var(BYTE, 9), Field(WORD, own, 0)))), Store(Field(WORD, own, 0), head), some]
+
+
+def stepped(*rest, step=STEP, name="own::WalkIterator::next"):
+    """A loop over an iterator, which is local 1; 2 is what its step answers, 3 what it gives; what comes behind is of the step."""
+    answer = Var(GIVEN, 2)
+    asked = Set(2, Call(GIVEN, name, [Address(Ref(True, WALK), Var(WALK, 1))]))
+    fn = Fn("f", 0, [UNIT, WALK, GIVEN, BLOCK], [])
+    body = [Loop([asked, Unless(answer, 1, [Break()]), Set(3, Held(BLOCK, answer, 1, 0)), *rest])]
+    Stepping(fn, {}, lambda path: ([GIVEN, Ref(True, WALK), WORD, WORD], {}, step)).write(body)
+    return body[0].body
+
+
+walk, block = Var(WALK, 1), Var(BLOCK, 3)
+size = Do(calling("neither", Field(WORD, block, 1)))
+expect(stepped(size) == [If(Op2(BOOL, "Le", "Unsigned", Field(WORD, walk, 1), Field(WORD, walk, 0)), [Break()], []),
+                         Set(5, Load(WORD, Offset(BYTE, Var(BYTE, 11), Field(WORD, walk, 0)))), SetField(Field(WORD, walk, 0), Var(WORD, 5)),
+                         Do(calling("neither", Var(WORD, 5)))], "a step is written into its loop, and what nobody reads is not")
+expect(stepped(Do(calling("neither", block)))[-2] == Set(3, Make(BLOCK, None, [Var(WORD, 4), Var(WORD, 5)])), "what is read as a whole is made")
+expect(isinstance(stepped(size, Do(calling("neither", Var(GIVEN, 2))))[0].value, Call), "an answer that is read once more is asked for")
+expect(isinstance(stepped(size, step=[*STEP[:-1], none])[0].value, Call), "nor is a step written in that gives nothing at its end")
+expect(isinstance(stepped(size, name="core::WalkIterator::next")[0].value, Call), "nor one of the kit's own")
 
 # ---- branches that are never gone
 

@@ -1,10 +1,12 @@
 """Writes one function: what is declared where, and each statement and value by its form."""
 
+import copy
 import re
 
 from forms import COUNTS, Text, UNARY, WIDTH, indented
 from shape import Shaper, ends, locals_in, negated
 from source import HIDDEN, INDEX
+from stepping import Stepping
 from tree import (Address, Array, BOOL, Break, Call, Cases, Cast, Continue, Do, Field, For, Held, If, Int, Is, Len, Load, Loop, Make, Named,
                   Num, Offset, Op1, Op2, Part, Ref, Repeat, Return, Set, SetField, Slice, Start, Store, Tag, Truth, UNIT, Unknown, Unless, Var,
                   While, bodies, everything, spelled, values)
@@ -144,7 +146,7 @@ class Writer:
 
     def __init__(self, file, path):
         self.file, self.path = file, path
-        self.fn, self.source = file.program.fn(path), file.source(path)
+        self.fn, self.source = copy.deepcopy(file.program.fn(path)), file.source(path)  # it is shaped in place
         self.locals = {}
 
     def form(self, name, *args):
@@ -186,12 +188,27 @@ class Writer:
 
     # ---- the function
 
-    def write(self):
+    def shaped(self):
         self.named = self.read_names()
         shaper = Shaper(self.file.program, self.fn, set(self.named), self.source.plain,
                         {local for local, name in self.named.items() if name in self.source.counters})
-        self.body = shaper.shape()
-        self.pointers = shaper.pointers
+        return shaper.shape(), shaper.pointers
+
+    def step(self, path):
+        """A step of an iterator, to be written into a loop."""
+        own = Writer(self.file, path)
+        body, pointers = own.shaped()
+        if pointers:
+            raise Unknown("a step that keeps a pointer")
+        return own.fn.types, own.named, body
+
+    def stepped(self):
+        body, pointers = self.shaped()
+        Stepping(self.fn, self.named, self.step).write(body)
+        return body, pointers
+
+    def write(self):
+        self.body, self.pointers = self.stepped()
         for local, (slice_, base) in self.pointers.items():
             self.named[local] = f"{self.named[slice_]}_{self.named[base]}"
         self.declare()
